@@ -1,0 +1,13 @@
+-- Counting over the numbers below n: `allTo` holds of each, `sumTo` adds up over them.
+use Prim.Native.Nat.{ℕ, zero, suc, _+_}
+use mathlib.Core.Bool.{Bool, true, _&&_}
+
+-- test 0, test 1, .. and test (n - 1) all hold
+unfoldable pub allTo : (ℕ → Bool) → ℕ → Bool
+allTo test zero = true
+allTo test (suc n) = allTo test n && test n
+
+-- f 0 + f 1 + .. + f (n - 1)
+unfoldable pub sumTo : (ℕ → ℕ) → ℕ → ℕ
+sumTo f zero = 0
+sumTo f (suc n) = sumTo f n + f n

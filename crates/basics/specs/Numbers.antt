@@ -1,0 +1,42 @@
+-- Document 01's numbers: a refusal's, a paper's.
+use Prim.Native.Nat.{ℕ}
+
+-- ---- refusals
+
+abbrev pub bitsRunOut : ℕ
+bitsRunOut = 1
+
+abbrev pub formDiffers : ℕ
+formDiffers = 2
+
+-- N, E, M, K or clock
+abbrev pub outsideLimit : ℕ
+outsideLimit = 3
+
+abbrev pub linkBroken : ℕ
+linkBroken = 4
+
+abbrev pub typeBroken : ℕ
+typeBroken = 5
+
+-- fill not zero, or bytes follow
+abbrev pub fillBroken : ℕ
+fillBroken = 6
+
+-- a record's number too wide for its field, or an unused cell not zero
+abbrev pub recordBroken : ℕ
+recordBroken = 7
+
+abbrev pub outputShort : ℕ
+outputShort = 22
+
+-- ---- papers
+
+abbrev pub paperJob : ℕ
+paperJob = 0
+
+abbrev pub paperPlan : ℕ
+paperPlan = 1
+
+abbrev pub paperRequest : ℕ
+paperRequest = 4

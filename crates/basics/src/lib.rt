@@ -1,0 +1,76 @@
+// Faults joined in their order, and what is asked of a record's tables.
+ghost use mathlib.Core.Path.{_≡_};
+ghost use Prim.Native.Nat.{_<_};
+ghost use Rattle.basics.specs.Faults.{_orElse_, faultUnless};
+ghost use Rattle.basics.specs.Tables.{cell as cellOf, within as withinOf, blank as blankOf};
+
+// The numbers of refusals.
+pub const BITS_RUN_OUT: u32 = 1;
+
+pub const FORM_DIFFERS: u32 = 2;
+
+pub const OUTSIDE_LIMIT: u32 = 3;
+
+pub const LINK_BROKEN: u32 = 4;
+
+pub const TYPE_BROKEN: u32 = 5;
+
+pub const FILL_BROKEN: u32 = 6;
+
+pub const RECORD_BROKEN: u32 = 7;
+
+pub const OUTPUT_SHORT: u32 = 22;
+
+// The numbers of papers.
+pub const PAPER_JOB: u32 = 0;
+
+pub const PAPER_PLAN: u32 = 1;
+
+pub const PAPER_REQUEST: u32 = 4;
+
+// The fault a, or where there is none the fault b.
+pub fn or_else(a: u32, b: u32) -> u32
+    ensures { λ r. ⌜ r ≡ a orElse b ⌝ }
+{
+    if a == 0 { b } else { a }
+}
+
+// The fault `number` where the test fails.
+pub fn fault_unless(test: bool, number: u32) -> u32
+    ensures { λ r. ⌜ r ≡ faultUnless test number ⌝ }
+{
+    if test { 0 } else { number }
+}
+
+// Cell i of a table, and 0 past its end.
+pub fn cell(table: &[u16], i: usize) -> u16
+    ensures { λ r. ⌜ (r ≡ cellOf (now (table .entry)) i) × (r < 65536) ⌝ }
+{
+    if i < table.len() { table[i] } else { 0 }
+}
+
+// The first n cells are at most the limit.
+pub fn within(table: &[u16], limit: u16, n: usize) -> bool
+    ensures { λ r. ⌜ r ≡ withinOf (now (table .entry)) limit n ⌝ }
+{
+    let mut ok = true;
+    let mut i: usize = 0;
+    while i < n {
+        ok = ok & (cell(table, i) <= limit);
+        i += 1;
+    }
+    ok
+}
+
+// The cells behind the first n are 0.
+pub fn blank(table: &[u16], n: usize) -> bool
+    ensures { λ r. ⌜ r ≡ blankOf (now (table .entry)) n ⌝ }
+{
+    let mut ok = true;
+    let mut i: usize = 0;
+    while i < table.len() {
+        ok = ok & ((i < n) | (table[i] == 0));
+        i += 1;
+    }
+    ok
+}
