@@ -1,0 +1,4 @@
+pub mod FieldLaws
+pub mod ByteLaws
+pub mod PutLaws
+pub mod SheetLaws
