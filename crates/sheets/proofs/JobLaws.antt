@@ -1,0 +1,63 @@
+-- Laws of a job's rules and of its reader: what no fault means, and the answer from the faults found.
+use Prim.Native.Nat.{ℕ, zero, suc, _+_, _*_, _-_, _≤_, _<_}
+use mathlib.Core.Path.{_≡_, refl, sym, _∙_}
+use mathlib.Core.Bool.{_&&_, _||_}
+use mathlib.Core.List.{List}
+use native.Mathlib.Omega.{arith}
+use borrow.Author.Tests.{leb-true}
+use lib.Dec.{ltb, eqb}
+use Rattle.basics.specs.Faults.{_orElse_}
+use Rattle.basics.specs.Tables.{cell}
+use Rattle.basics.proofs.CountLaws.{and-both}
+use Rattle.basics.proofs.FaultLaws.{orElse-none, unless-none}
+use Rattle.sheets.specs.Limits.{maxOps, maxLinks, maxTypes, maxTime}
+use Rattle.sheets.specs.JobRecord.{countsFault, ascends}
+use Rattle.sheets.specs.JobSheet.{nIn, eIn, mIn, clockIn, jobIn, headFault, jobFault, jobRefused, jobRead, readJob}
+use Rattle.sheets.specs.declared.Job.{Job}
+use Rattle.sheets.specs.declared.JobRead.{JobRead}
+use Rattle.sheets.specs.declared.Reading.the-variants.{Read}
+
+-- a link that is not the first, and the one before it
+pub ascends-behind : (from to : List ℕ) (i : ℕ) → (i ≡ 0 → ⊥)
+    → ascends from to i
+    ≡ (ltb (cell from (i - 1)) (cell from i) || (eqb (cell from (i - 1)) (cell from i) && ltb (cell to (i - 1)) (cell to i)))
+unfolding ascends
+ascends-behind from to zero h = absurd (h refl)
+ascends-behind from to (suc i) h = let e : suc i - 1 ≡ i = omega arith in rw e
+
+-- ---- counts within their limits
+
+pub record Counts (n e m clock : ℕ) : Type 0 where
+  pub ops : n ≤ maxOps
+  pub links : e ≤ maxLinks
+  pub types : m ≤ maxTypes
+  pub some : 1 ≤ clock
+  pub short : clock ≤ maxTime
+
+pub none-counts : (n e m clock : ℕ) → countsFault n e m clock ≡ 0 → Counts n e m clock
+unfolding countsFault
+none-counts n e m clock h =
+    let a = and-both _ _ (unless-none _ 2 h) in
+    let b = and-both _ _ (a .0) in
+    let d = and-both _ _ (b .0) in
+    let f = and-both _ _ (d .0) in
+    record { ops = leb-true _ _ (f .0); links = leb-true _ _ (f .1); types = leb-true _ _ (d .1); some = leb-true _ _ (b .1); short = leb-true _ _ (a .1) }
+
+pub head-counts : (s : List ℕ) → headFault s ≡ 0 → Counts (nIn s) (eIn s) (mIn s) (clockIn s)
+unfolding headFault
+head-counts s h = none-counts _ _ _ _ (orElse-none _ _ (orElse-none _ _ h .1) .1)
+
+-- ---- the reader's answer
+
+pub job-head : (s : List ℕ) → jobFault s ≡ 0 → headFault s ≡ 0
+unfolding jobFault
+job-head s h = orElse-none _ _ h .0
+
+pub job-refused : (s : List ℕ) (k : ℕ) (r : JobRead) → r ≡ jobRefused k → k ≡ jobFault s → (k ≡ 0 → ⊥) → r ≡ readJob s
+unfolding readJob jobRead
+job-refused s zero r w e q = absurd (q refl)
+job-refused s (suc k) r w e q = rw (← e) w
+
+pub job-read : (s : List ℕ) (j : Job) → jobFault s ≡ 0 → j ≡ jobIn s → _≡_ {A = JobRead} (record { answer = Read; job = j }) (readJob s)
+unfolding readJob jobRead
+job-read s j e w = rw (e, w)

@@ -1,0 +1,11 @@
+pub mod GroupLaws
+pub mod ColumnLaws
+pub mod AnswerLaws
+pub mod JobLaws
+pub mod RecordLaws
+pub mod JobFieldLaws
+pub mod PlanLaws
+pub mod PlanFieldLaws
+pub mod PlanRoundTrip
+pub mod JobRoundTrip
+pub mod TriedByHand

@@ -1,0 +1,131 @@
+-- Laws of a job's record: what one without fault has (`JobSound`), and that its groups never run out of its own sheet.
+use Prim.Native.Nat.{ℕ, zero, suc, _+_, _*_, _/_, _%_, _≤_, _<_, _^_}
+use mathlib.Core.Path.{_≡_, refl, sym, ap₂, _∙_}
+use mathlib.Core.Logic.{⊎-elim}
+use mathlib.Core.Bool.{Bool, true, false, _&&_, _||_}
+use mathlib.Core.List.{List}
+use native.Mathlib.Omega.{arith}
+use borrow.Author.Tests.{leb-true, ltb-true, eqb-true}
+use lib.Dec.{leb, eqb}
+use Rattle.basics.specs.Counting.{allTo, sumTo}
+use Rattle.basics.specs.Faults.{_orElse_, first}
+use Rattle.basics.specs.Tables.{cell, within, blank}
+use Rattle.basics.proofs.CountLaws.{and-both, either, allTo-each}
+use Rattle.basics.proofs.FaultLaws.{orElse-none, orElse-go, unless-none, first-none, first-cong}
+use Rattle.basics.proofs.TableLaws.{within-each}
+use Rattle.bits.specs.Sheet.{bytesFor}
+use Rattle.sheets.specs.Limits.{maxCopies, maxInsts, kindCount, maxKind, maxSteps, maxTime, linkBits, typeBits}
+use Rattle.sheets.specs.Groups.{runsOut}
+use Rattle.sheets.specs.JobRecord.{countsFault, ascends, linkFault, pairOk, pairSound, copiesOk, typeFault, tablesBlank, jobFits, rulesFault, recordFault}
+use Rattle.sheets.specs.JobSheet.{linksAt, typesAt, jobEnd, linkGroup, typeGroup, tablesFault}
+use Rattle.sheets.specs.declared.Job.{Job}
+use Rattle.sheets.proofs.GroupLaws.{whole-none}
+use Rattle.sheets.proofs.JobLaws.{Counts, none-counts}
+
+-- ---- a link without fault
+
+pub none-link : (from to : List ℕ) (n i : ℕ) → linkFault from to n i ≡ 0 → (cell from i < cell to i) × (cell to i < n)
+unfolding linkFault
+none-link from to n i h =
+    let a = and-both _ _ (and-both _ _ (unless-none _ 3 h) .0) in
+    (ltb-true _ _ (a .0), ltb-true _ _ (a .1))
+
+-- ---- a type without fault
+
+pair-small : (time interval : ℕ) → pairOk time interval ≡ true → (time ≤ maxTime) × (interval ≤ maxTime)
+pair-small time interval h = ⊎-elim none some (either _ _ h)
+  where
+    none : eqb time 0 && eqb interval 0 ≡ true → (time ≤ maxTime) × (interval ≤ maxTime)
+    none e =
+        let a = and-both (eqb time 0) (eqb interval 0) e in
+        (omega (arith, eqb-true time 0 (a .0)), omega (arith, eqb-true interval 0 (a .1)))
+
+    some : leb 1 interval && leb interval time && leb time maxTime ≡ true → (time ≤ maxTime) × (interval ≤ maxTime)
+    some e =
+        let a = and-both (leb 1 interval && leb interval time) (leb time maxTime) e in
+        let b = and-both (leb 1 interval) (leb interval time) (a .0) in
+        let t : time ≤ maxTime = leb-true time maxTime (a .1) in
+        (t, omega (arith, leb-true interval time (b .1)))
+
+module _ (copies times intervals : List ℕ) (y : ℕ) (h : typeFault copies times intervals y ≡ 0) where
+  type-rules : (copiesOk copies y ≡ true) × (allTo (pairSound times intervals y) kindCount ≡ true)
+  unfolding typeFault
+  type-rules = and-both (copiesOk copies y) (allTo (pairSound times intervals y) kindCount) (unless-none _ 4 h)
+
+  pub none-copies : cell copies y ≤ maxCopies
+  none-copies =
+      let few : Bool = leb (cell copies y) maxCopies in
+      let some : Bool = leb 1 (cell copies y) in
+      leb-true _ _ (and-both some few (and-both (some && few) (leb (sumTo (cell copies) y + cell copies y) maxInsts) (type-rules .0) .0) .1)
+
+  pub none-pair : (k : ℕ) → k < kindCount → (cell times (kindCount * y + k) ≤ maxTime) × (cell intervals (kindCount * y + k) ≤ maxTime)
+  unfolding pairSound
+  none-pair k l = pair-small _ _ (allTo-each (pairSound times intervals y) kindCount (type-rules .1) k l)
+
+-- kind i % kindCount of type i / kindCount
+none-pairs : (copies times intervals : List ℕ) (m : ℕ) → first (typeFault copies times intervals) m ≡ 0
+    → (i : ℕ) → i < kindCount * m → (cell times i ≤ maxTime) × (cell intervals i ≤ maxTime)
+none-pairs copies times intervals m h i l =
+    let e : kindCount * (i / kindCount) + i % kindCount ≡ i = omega arith in
+    let z = first-none (typeFault copies times intervals) m h (i / kindCount) (omega arith) in
+    rw e at (none-pair copies times intervals (i / kindCount) z (i % kindCount) (omega arith))
+
+-- ---- a record without fault
+
+pub record JobSound (j : Job) : Type 0 where
+  pub counts : Counts (j .n) (j .e) (j .m) (j .clock)
+  pub steps : j .t ≤ maxSteps
+  pub wire : j .wire ≤ maxTime
+  pub kinds : (i : ℕ) → i < j .n → cell (j .kinds) i ≤ maxKind
+  pub links : (i : ℕ) → i < j .e → (cell (j .from) i < cell (j .to) i) × (cell (j .to) i < j .n)
+  pub copies : (y : ℕ) → y < j .m → cell (j .copies) y ≤ maxCopies
+  pub pairs : (i : ℕ) → i < kindCount * j .m → (cell (j .times) i ≤ maxTime) × (cell (j .intervals) i ≤ maxTime)
+  pub unusedKinds : blank (j .kinds) (j .n) ≡ true
+  pub unusedFrom : blank (j .from) (j .e) ≡ true
+  pub unusedTo : blank (j .to) (j .e) ≡ true
+  pub unusedCosts : blank (j .costs) (j .m) ≡ true
+  pub unusedCopies : blank (j .copies) (j .m) ≡ true
+  pub unusedTimes : blank (j .times) (kindCount * j .m) ≡ true
+  pub unusedIntervals : blank (j .intervals) (kindCount * j .m) ≡ true
+
+pub none-record : (j : Job) → recordFault j ≡ 0 → JobSound j
+unfolding recordFault rulesFault jobFits tablesBlank
+none-record j h =
+    let r = orElse-none _ _ (orElse-none _ _ h .1) in
+    let l = orElse-none _ _ (r .0) in
+    let f = and-both _ _ (unless-none _ 6 (r .1)) in
+    let k = and-both _ _ (f .0) in
+    let w = and-both _ _ (k .0) in
+    let t = and-both _ _ (w .0) in
+    let b1 = and-both _ _ (f .1) in
+    let b2 = and-both _ _ (b1 .0) in
+    let b3 = and-both _ _ (b2 .0) in
+    let b4 = and-both _ _ (b3 .0) in
+    let b5 = and-both _ _ (b4 .0) in
+    record {
+      counts = none-counts _ _ _ _ (orElse-none _ _ h .0);
+      steps = leb-true _ _ (t .0);
+      wire = leb-true _ _ (t .1);
+      kinds = within-each (j .kinds) maxKind (j .n) (w .1);
+      links = λ i q. none-link (j .from) (j .to) (j .n) i (first-none (linkFault (j .from) (j .to) (j .n)) (j .e) (l .0) i q);
+      copies = λ y q. none-copies (j .copies) (j .times) (j .intervals) y (first-none (typeFault (j .copies) (j .times) (j .intervals)) (j .m) (l .1) y q);
+      pairs = none-pairs (j .copies) (j .times) (j .intervals) (j .m) (l .1);
+      unusedKinds = k .1;
+      unusedFrom = b5 .0;
+      unusedTo = b5 .1;
+      unusedCosts = b4 .1;
+      unusedCopies = b3 .1;
+      unusedTimes = b2 .1;
+      unusedIntervals = b1 .1;
+    }
+
+-- ---- in a sheet with room for all of them, links and types have the record's own faults
+
+pub tables-rules : (j : Job) (bytes : ℕ) → jobEnd (j .n) (j .e) (j .m) ≤ 8 * bytes → tablesFault bytes j ≡ rulesFault j
+unfolding tablesFault rulesFault linkGroup typeGroup
+tables-rules j bytes h =
+    ap₂ (λ (a b : ℕ). a orElse b)
+    (first-cong (linkGroup bytes (j .from) (j .to) (j .n)) (linkFault (j .from) (j .to) (j .n)) (j .e)
+    (λ i q. orElse-go _ _ (whole-none bytes (linksAt (j .n) + linkBits * (i + 1)) (omega arith))))
+    (first-cong (typeGroup bytes (typesAt (j .n) (j .e)) (j .copies) (j .times) (j .intervals)) (typeFault (j .copies) (j .times) (j .intervals)) (j .m)
+    (λ y q. orElse-go _ _ (whole-none bytes (typesAt (j .n) (j .e) + typeBits * (y + 1)) (omega arith))))

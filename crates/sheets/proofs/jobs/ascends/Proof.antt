@@ -1,0 +1,47 @@
+-- The first link is behind none; another is compared with the one before it.
+use mathlib.Core.Path.{sym}
+use borrow.Author.Needs.{needs}
+use Rattle.sheets.proofs.JobLaws.{ascends-behind}
+use Rattle.sheets.specs.JobRecord.{ascends}
+use Rattle.sheets.proofs.jobs.ascends.Statement.{statement}
+use Rattle.sheets.proofs.jobs.ascends.Tie as tie
+
+returns : tie.Need-returns
+unfolding ascends
+returns c = rw (c .if1 .taken)
+
+sub-cell : tie.Need-sub-cell
+sub-cell c = search needs
+
+cell-requires : tie.Need-cell-requires
+cell-requires c κs = search needs
+
+cell-requires-2 : tie.Need-cell-requires-2
+cell-requires-2 c κs = search needs
+
+sub-cell-2 : tie.Need-sub-cell-2
+sub-cell-2 c = search needs
+
+cell-requires-3 : tie.Need-cell-requires-3
+cell-requires-3 c κs = search needs
+
+cell-requires-4 : tie.Need-cell-requires-4
+cell-requires-4 c κs = search needs
+
+returns-2 : tie.Need-returns-2
+returns-2 c =
+    let a = c .before .before .before .before .before .before .before .args in
+    rw (ascends-behind (a .from .now) (a .to .now) (a .i) (c .before .before .before .before .if1 .left), c .cell4 .ensures .0, c .before .cell3 .ensures .0, c .before .before .cell2 .ensures .0, c .before .before .before .cell .ensures .0)
+
+pub ascends-spec : {M : Type 1} → statement M
+ascends-spec =
+    tie.close
+    (tie.spec
+    returns
+    sub-cell
+    cell-requires
+    cell-requires-2
+    sub-cell-2
+    cell-requires-3
+    cell-requires-4
+    returns-2)

@@ -1,0 +1,67 @@
+-- The calls join as the definition does.
+use borrow.Author.Needs.{needs}
+use Rattle.sheets.specs.JobSheet.{headFault}
+use Rattle.sheets.proofs.jobs.head_fault.Statement.{statement}
+use Rattle.sheets.proofs.jobs.head_fault.Tie as tie
+
+field-requires : tie.Need-field-requires
+field-requires c κs = search needs
+
+cast-n : tie.Need-cast-n
+cast-n c = search needs
+
+field-requires-2 : tie.Need-field-requires-2
+field-requires-2 c κs = search needs
+
+cast-e : tie.Need-cast-e
+cast-e c = search needs
+
+field-requires-3 : tie.Need-field-requires-3
+field-requires-3 c κs = search needs
+
+cast-m : tie.Need-cast-m
+cast-m c = search needs
+
+field-requires-4 : tie.Need-field-requires-4
+field-requires-4 c κs = search needs
+
+cast-clock : tie.Need-cast-clock
+cast-clock c = search needs
+
+runs-out-requires : tie.Need-runs-out-requires
+runs-out-requires c κs = search needs
+
+counts-fault-requires : tie.Need-counts-fault-requires
+counts-fault-requires c κs = search needs
+
+or-else-requires : tie.Need-or-else-requires
+or-else-requires c κs = search needs
+
+form-fault-requires : tie.Need-form-fault-requires
+form-fault-requires c κs = search needs
+
+or-else-requires-2 : tie.Need-or-else-requires-2
+or-else-requires-2 c κs = search needs
+
+returns : tie.Need-returns
+unfolding headFault
+returns c = simp (c .or-else2 .ensures, c .before .form-fault .ensures, c .before .before .or-else .ensures, c .before .before .before .counts-fault .ensures, c .before .before .before .before .runs-out .ensures, c .before .before .before .before .before .field4 .ensures .0, c .before .before .before .before .before .before .field3 .ensures .0, c .before .before .before .before .before .before .before .field2 .ensures .0, c .before .before .before .before .before .before .before .before .field .ensures .0)
+
+pub head-fault-spec : {M : Type 1} → statement M
+head-fault-spec =
+    tie.close
+    (tie.spec
+    field-requires
+    cast-n
+    field-requires-2
+    cast-e
+    field-requires-3
+    cast-m
+    field-requires-4
+    cast-clock
+    runs-out-requires
+    counts-fault-requires
+    or-else-requires
+    form-fault-requires
+    or-else-requires-2
+    returns)

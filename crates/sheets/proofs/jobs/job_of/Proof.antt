@@ -1,0 +1,119 @@
+-- Each field and each column is the definition's.
+use borrow.Author.Needs.{needs}
+use Rattle.sheets.specs.JobSheet.{jobOf}
+use Rattle.sheets.proofs.jobs.job_of.Statement.{statement}
+use Rattle.sheets.proofs.jobs.job_of.Tie as tie
+
+mul-links : tie.Need-mul-links
+mul-links c = search needs
+
+add-links : tie.Need-add-links
+add-links c = search needs
+
+mul-types : tie.Need-mul-types
+mul-types c = search needs
+
+add-types : tie.Need-add-types
+add-types c = search needs
+
+add-pairs : tie.Need-add-pairs
+add-pairs c = search needs
+
+cast-t9 : tie.Need-cast-t9
+cast-t9 c = search needs
+
+cast-t10 : tie.Need-cast-t10
+cast-t10 c = search needs
+
+cast-t11 : tie.Need-cast-t11
+cast-t11 c = search needs
+
+field-requires : tie.Need-field-requires
+field-requires c κs = search needs
+
+cast-t13 : tie.Need-cast-t13
+cast-t13 c = search needs
+
+field-requires-2 : tie.Need-field-requires-2
+field-requires-2 c κs = search needs
+
+cast-t15 : tie.Need-cast-t15
+cast-t15 c = search needs
+
+field-requires-3 : tie.Need-field-requires-3
+field-requires-3 c κs = search needs
+
+cast-t17 : tie.Need-cast-t17
+cast-t17 c = search needs
+
+op-column-requires : tie.Need-op-column-requires
+op-column-requires c κs = search needs
+
+link-column-requires : tie.Need-link-column-requires
+link-column-requires c κs = search needs
+
+add-link-column : tie.Need-add-link-column
+add-link-column c = search needs
+
+link-column-requires-2 : tie.Need-link-column-requires-2
+link-column-requires-2 c κs = search needs
+
+type-column-requires : tie.Need-type-column-requires
+type-column-requires c κs = search needs
+
+add-type-column : tie.Need-add-type-column
+add-type-column c = search needs
+
+type-column-requires-2 : tie.Need-type-column-requires-2
+type-column-requires-2 c κs = search needs
+
+mul-pair-column : tie.Need-mul-pair-column
+mul-pair-column c = search needs
+
+pair-column-requires : tie.Need-pair-column-requires
+pair-column-requires c κs = search needs
+
+add-pair-column : tie.Need-add-pair-column
+add-pair-column c = search needs
+
+mul-pair-column-2 : tie.Need-mul-pair-column-2
+mul-pair-column-2 c = search needs
+
+pair-column-requires-2 : tie.Need-pair-column-requires-2
+pair-column-requires-2 c κs = search needs
+
+returns : tie.Need-returns
+unfolding jobOf
+returns c = simp (c .pair-column2 .ensures, c .before .pair-column .ensures, c .before .before .type-column2 .ensures, c .before .before .before .type-column .ensures, c .before .before .before .before .link-column2 .ensures, c .before .before .before .before .before .link-column .ensures, c .before .before .before .before .before .before .op-column .ensures, c .before .before .before .before .before .before .before .field3 .ensures .0, c .before .before .before .before .before .before .before .before .field2 .ensures .0, c .before .before .before .before .before .before .before .before .before .field .ensures .0)
+
+pub job-of-spec : {M : Type 1} → statement M
+job-of-spec =
+    tie.close
+    (tie.spec
+    mul-links
+    add-links
+    mul-types
+    add-types
+    add-pairs
+    cast-t9
+    cast-t10
+    cast-t11
+    field-requires
+    cast-t13
+    field-requires-2
+    cast-t15
+    field-requires-3
+    cast-t17
+    op-column-requires
+    link-column-requires
+    add-link-column
+    link-column-requires-2
+    type-column-requires
+    add-type-column
+    type-column-requires-2
+    mul-pair-column
+    pair-column-requires
+    add-pair-column
+    mul-pair-column-2
+    pair-column-requires-2
+    returns)

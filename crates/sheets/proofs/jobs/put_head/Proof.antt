@@ -1,0 +1,29 @@
+-- A record without fault has numbers that fit the header.
+use native.Mathlib.Omega.{arith}
+use borrow.Author.Needs.{needs}
+use Rattle.bits.specs.Sheet.{putAll}
+use Rattle.sheets.proofs.RecordLaws.{none-record}
+use Rattle.sheets.proofs.jobs.put_head.Statement.{statement}
+use Rattle.sheets.proofs.jobs.put_head.Tie as tie
+
+put-counts-requires : tie.Need-put-counts-requires
+put-counts-requires c κs =
+    let s = c .before .before in
+    let k = none-record (s .args .j) (s .pre .0) .counts in
+    (k .ops, k .links, k .types, omega (arith, s .pre .1))
+
+put-times-requires : tie.Need-put-times-requires
+put-times-requires c κs =
+    let s = c .before .before .before .before .before .before in
+    let k = none-record (s .args .j) (s .pre .0) in
+    (k .steps, k .counts .short, k .wire, rw (c .before .before .before .put-counts .kept .0) (s .pre .1))
+
+same-length : tie.Need-same-length
+same-length c = search needs
+
+returns : tie.Need-returns
+unfolding putAll
+returns c = rw (c .before .before .put-times .ensures, c .before .before .before .before .before .before .put-counts .ensures)
+
+pub put-head-spec : {M : Type 1} → statement M
+put-head-spec = tie.close (tie.spec put-counts-requires put-times-requires same-length returns)

@@ -1,0 +1,25 @@
+-- One put after another, as the definition says.
+use borrow.Author.Needs.{needs}
+use Rattle.bits.specs.Sheet.{putAll}
+use Rattle.sheets.proofs.jobs.put_times.Statement.{statement}
+use Rattle.sheets.proofs.jobs.put_times.Tie as tie
+
+put-requires : tie.Need-put-requires
+put-requires c κs = search needs
+
+put-requires-2 : tie.Need-put-requires-2
+put-requires-2 c κs = search needs
+
+put-requires-3 : tie.Need-put-requires-3
+put-requires-3 c κs = search needs
+
+same-length : tie.Need-same-length
+same-length c = search needs
+
+returns : tie.Need-returns
+unfolding putAll
+returns c = rw (c .before .before .put3 .ensures, c .before .before .before .before .before .before .put2 .ensures, c .before .before .before .before .before .before .before .before .before .before .put .ensures)
+
+pub put-times-spec : {M : Type 1} → statement M
+put-times-spec =
+    tie.close (tie.spec put-requires put-requires-2 put-requires-3 same-length returns)

@@ -1,0 +1,52 @@
+-- The faults of head and body join to the sheet's first.
+use mathlib.Core.Path.{sym, _∙_}
+use borrow.Author.Needs.{needs}
+use Rattle.basics.proofs.FaultLaws.{stopped, went, orElse-go}
+use Rattle.sheets.proofs.JobLaws.{job-refused, job-read}
+use Rattle.sheets.specs.JobSheet.{jobFault}
+use Rattle.sheets.proofs.jobs.read_job.Statement.{statement}
+use Rattle.sheets.proofs.jobs.read_job.Tie as tie
+
+head-fault-requires : tie.Need-head-fault-requires
+head-fault-requires c κs = search needs
+
+job-refused-requires : tie.Need-job-refused-requires
+job-refused-requires c κs = search needs
+
+returns : tie.Need-returns
+unfolding jobFault
+returns c = job-refused _ _ _ (c .job-refused .ensures) (stopped _ _ _ (c .before .before .head-fault .ensures) (c .before .if1 .taken)) (c .before .if1 .taken)
+
+job-in-requires : tie.Need-job-in-requires
+job-in-requires c κs = sym (c .before .head-fault .ensures) ∙ c .if1 .left
+
+body-fault-requires : tie.Need-body-fault-requires
+body-fault-requires c κs = search needs
+
+job-refused-requires-2 : tie.Need-job-refused-requires-2
+job-refused-requires-2 c κs = search needs
+
+returns-2 : tie.Need-returns-2
+unfolding jobFault
+returns-2 c =
+    let z = sym (c .before .before .before .before .before .head-fault .ensures) ∙ c .before .before .before .before .if1 .left in
+    job-refused _ _ _ (c .job-refused2 .ensures) (went _ _ _ z (rw (c .before .before .body-fault .ensures, c .before .before .before .job-in .ensures))) (c .before .if2 .taken)
+
+returns-3 : tie.Need-returns-3
+unfolding jobFault
+returns-3 c =
+    let z = sym (c .before .before .before .before .head-fault .ensures) ∙ c .before .before .before .if1 .left in
+    job-read _ _ (orElse-go _ _ z ∙ rw (← c .before .before .job-in .ensures, ← c .before .body-fault .ensures) (c .if2 .left)) (c .before .before .job-in .ensures)
+
+pub read-job-spec : {M : Type 1} → statement M
+read-job-spec =
+    tie.close
+    (tie.spec
+    head-fault-requires
+    job-refused-requires
+    returns
+    job-in-requires
+    body-fault-requires
+    job-refused-requires-2
+    returns-2
+    returns-3)

@@ -1,0 +1,54 @@
+-- In its own sheet a record's groups never run out.
+use native.Mathlib.Omega.{arith}
+use borrow.Author.Needs.{needs}
+use Rattle.bits.specs.Sheet.{bytesFor}
+use Rattle.sheets.proofs.RecordLaws.{tables-rules}
+use Rattle.sheets.specs.JobRecord.{recordFault}
+use Rattle.sheets.specs.JobSheet.{jobEnd}
+use Rattle.sheets.proofs.jobs.record_fault.Statement.{statement}
+use Rattle.sheets.proofs.jobs.record_fault.Tie as tie
+
+job-end-requires : tie.Need-job-end-requires
+job-end-requires c κs = search needs
+
+add-bytes : tie.Need-add-bytes
+add-bytes c = search needs
+
+job-fits-requires : tie.Need-job-fits-requires
+job-fits-requires c κs = search needs
+
+fault-unless-requires : tie.Need-fault-unless-requires
+fault-unless-requires c κs = search needs
+
+counts-fault-requires : tie.Need-counts-fault-requires
+counts-fault-requires c κs = search needs
+
+tables-fault-requires : tie.Need-tables-fault-requires
+tables-fault-requires c κs = search needs
+
+or-else-requires : tie.Need-or-else-requires
+or-else-requires c κs = search needs
+
+or-else-requires-2 : tie.Need-or-else-requires-2
+or-else-requires-2 c κs = search needs
+
+returns : tie.Need-returns
+unfolding recordFault
+returns c =
+    let j = c .before .before .before .before .before .before .before .args .j in
+    let r = tables-rules j (bytesFor (jobEnd (j .n) (j .e) (j .m))) (omega arith) in
+    simp (c .or-else2 .ensures, c .before .or-else .ensures, c .before .before .tables-fault .ensures, c .before .before .before .counts-fault .ensures, c .before .before .before .before .fault-unless .ensures, c .before .before .before .before .before .job-fits .ensures, c .before .before .before .before .before .before .job-end .ensures, r)
+
+pub record-fault-spec : {M : Type 1} → statement M
+record-fault-spec =
+    tie.close
+    (tie.spec
+    job-end-requires
+    add-bytes
+    job-fits-requires
+    fault-unless-requires
+    counts-fault-requires
+    tables-fault-requires
+    or-else-requires
+    or-else-requires-2
+    returns)

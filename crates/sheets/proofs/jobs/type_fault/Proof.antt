@@ -1,0 +1,39 @@
+-- The calls join as the definition does.
+use borrow.Author.Needs.{needs}
+use Rattle.sheets.specs.JobRecord.{typeFault}
+use Rattle.sheets.proofs.jobs.type_fault.Statement.{statement}
+use Rattle.sheets.proofs.jobs.type_fault.Tie as tie
+
+cell-requires : tie.Need-cell-requires
+cell-requires c κs = search needs
+
+cast-some : tie.Need-cast-some
+cast-some c = search needs
+
+add-some : tie.Need-add-some
+add-some c = search needs
+
+cast-some-2 : tie.Need-cast-some-2
+cast-some-2 c = search needs
+
+pairs-sound-requires : tie.Need-pairs-sound-requires
+pairs-sound-requires c κs = search needs
+
+fault-unless-requires : tie.Need-fault-unless-requires
+fault-unless-requires c κs = search needs
+
+returns : tie.Need-returns
+unfolding typeFault
+returns c = simp (c .fault-unless .ensures, c .before .pairs-sound .ensures, c .before .before .cell .ensures .0, c .before .before .before .before .before .before .pre .2)
+
+pub type-fault-spec : {M : Type 1} → statement M
+type-fault-spec =
+    tie.close
+    (tie.spec
+    cell-requires
+    cast-some
+    add-some
+    cast-some-2
+    pairs-sound-requires
+    fault-unless-requires
+    returns)

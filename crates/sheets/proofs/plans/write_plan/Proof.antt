@@ -1,0 +1,88 @@
+-- A fault or a short output stops before the first put; else the fields and the fill make the sheet.
+use Prim.Native.Nat.{_≤_, _<_}
+use mathlib.Core.Path.{_≡_, sym, _∙_}
+use native.Mathlib.Omega.{arith}
+use borrow.Author.Needs.{needs}
+use denote.Ref.{now}
+use lib.ListN.{length}
+use lib.Pow.{pow-pos}
+use Rattle.bits.specs.Sheet.{bytesFor}
+use Rattle.sheets.proofs.AnswerLaws.{written-fault, written-short, written-wrote, output-refused, output-wrote}
+use Rattle.sheets.proofs.PlanFieldLaws.{none-plan, put-plan}
+use Rattle.sheets.specs.PlanSheet.{planEnd, planSheet, writePlan}
+use Rattle.sheets.proofs.plans.write_plan.Statement.{statement}
+use Rattle.sheets.proofs.plans.write_plan.Tie as tie
+
+plan-record-fault-requires : tie.Need-plan-record-fault-requires
+plan-record-fault-requires c κs = search needs
+
+returns : tie.Need-returns
+unfolding writePlan
+returns c =
+    let a = c .before .before .before .args in
+    record { answer = written-fault _ _ _ _ _ (c .before .plan-record-fault .ensures) (c .if1 .taken); bytes = output-refused _ _ (planSheet (a .plan)) (now (a .out)) }
+
+plan-end-requires : tie.Need-plan-end-requires
+plan-end-requires c κs = search needs
+
+add-length : tie.Need-add-length
+add-length c = search needs
+
+returns-2 : tie.Need-returns-2
+unfolding writePlan
+returns-2 c =
+    let a = c .before .before .before .before .before .args in
+    let p = a .plan in
+    let z = sym (c .before .before .before .plan-record-fault .ensures) ∙ c .before .before .if1 .left in
+    let s : length (now (a .out)) < bytesFor (planEnd (p .n) (p .k)) = rw (← c .before .plan-end .ensures) (c .if2 .taken) in
+    record { answer = written-short _ _ _ _ z s; bytes = output-refused _ _ (planSheet p) (now (a .out)) }
+
+put-plan-requires : tie.Need-put-plan-requires
+put-plan-requires c κs = search needs
+
+mul-put : tie.Need-mul-put
+mul-put c = search needs
+
+sub-put : tie.Need-sub-put
+sub-put c = search needs
+
+put-requires : tie.Need-put-requires
+put-requires c κs =
+    let e = c .before .before .before .before .before .before .plan-end .ensures in
+    (omega arith, rw (c .before .before .before .put-plan .kept .0) (omega arith), pow-pos _)
+
+cast-t14 : tie.Need-cast-t14
+cast-t14 c = search needs
+
+same-length : tie.Need-same-length
+same-length c = search needs
+
+returns-3 : tie.Need-returns-3
+unfolding writePlan
+returns-3 c =
+    let a = c .before .before .before .before .before .before .before .before .before .before .before .before .before .args in
+    let p = a .plan in
+    let z = sym (c .before .before .before .before .before .before .before .before .before .before .before .plan-record-fault .ensures) ∙ c .before .before .before .before .before .before .before .before .before .before .if1 .left in
+    let e = c .before .before .before .before .before .before .before .before .before .plan-end .ensures in
+    let l : bytesFor (planEnd (p .n) (p .k)) ≤ length (now (a .out)) = omega arith in
+    rw e (record {
+      answer = written-wrote _ _ _ _ z l;
+      bytes = output-wrote _ _ _ _ (rw (c .before .before .put .ensures, c .before .before .before .before .before .before .put-plan .ensures, e) (put-plan p (none-plan p z) (now (a .out)) (λ i. c .before .before .before .before .before .before .before .before .before .before .before .before .slice-known .given i .fits) l));
+    })
+
+pub write-plan-spec : {M : Type 1} → statement M
+write-plan-spec =
+    tie.close
+    (tie.spec
+    plan-record-fault-requires
+    returns
+    plan-end-requires
+    add-length
+    returns-2
+    put-plan-requires
+    mul-put
+    sub-put
+    put-requires
+    cast-t14
+    same-length
+    returns-3)

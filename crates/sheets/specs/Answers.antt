@@ -1,0 +1,25 @@
+-- What each case of an answer stands for. A fault's number and its paper give the case; 0 is no fault.
+use Prim.Native.Nat.{ℕ, zero, suc}
+use mathlib.Core.Bool.{Bool, true, false}
+use mathlib.Core.List.{List, _++_}
+use lib.Dec.{leb}
+use lib.ListN.{drop}
+use Rattle.basics.specs.Numbers.{outputShort, paperRequest}
+use Rattle.sheets.specs.declared.Written.{Written}
+use Rattle.sheets.specs.declared.Written.the-variants.{Wrote, Refused}
+
+-- ---- a writer's answer: written with the length, or refused with number and paper
+
+unfoldable pub ifRoom : Bool → ℕ → Written
+ifRoom true size = Wrote size
+ifRoom false size = Refused outputShort paperRequest
+
+-- the record's fault, then whether the output's `room` bytes hold the sheet's `size`
+unfoldable pub written : ℕ → ℕ → ℕ → ℕ → Written
+written zero paper size room = ifRoom (leb size room) size
+written (suc k) paper size room = Refused (suc k) paper
+
+-- the output's bytes after it: the sheet and what stood behind it, or all as it was
+unfoldable pub output : Written → List ℕ → List ℕ → List ℕ
+output (Wrote size) sheet out = sheet ++ drop size out
+output (Refused k paper) sheet out = out
