@@ -1,0 +1,143 @@
+/* Tolmupung: job and plan sheets, read and written exactly.
+ *
+ * Every entry takes any bytes and any numbers, and ends. A refusal gives its number and the paper at fault,
+ * and changes no output byte. Nothing here allocates, and nothing is kept between calls.
+ * A pointer that is NULL is taken for no bytes at all, whatever length comes with it.
+ */
+#ifndef TOLMUPUNG_H
+#define TOLMUPUNG_H
+
+#include <stddef.h>
+#include <stdint.h>
+
+#ifdef __cplusplus
+extern "C" {
+#endif
+
+/* Limits of a record, and the most bytes that a sheet of each form has. */
+enum {
+    TOLMUPUNG_MAX_OPS = 24,
+    TOLMUPUNG_MAX_LINKS = 64,
+    TOLMUPUNG_MAX_TYPES = 8,
+    TOLMUPUNG_MAX_INSTANCES = 16,
+    TOLMUPUNG_KINDS = 8,
+    TOLMUPUNG_JOB_BYTES = 274,
+    TOLMUPUNG_PLAN_BYTES = 31
+};
+
+/* What an answer can be. */
+enum {
+    TOLMUPUNG_REFUSED = 0,
+    TOLMUPUNG_PASSED = 1,
+    TOLMUPUNG_FOUND = 2,
+    TOLMUPUNG_NONE = 3,
+    TOLMUPUNG_SPENT = 4,
+    TOLMUPUNG_CHEAPEST = 5,
+    TOLMUPUNG_WRITTEN = 6,
+    TOLMUPUNG_READ = 7
+};
+
+/* The paper at fault. */
+enum {
+    TOLMUPUNG_PAPER_JOB = 0,
+    TOLMUPUNG_PAPER_PLAN = 1,
+    TOLMUPUNG_PAPER_NOTE = 2,
+    TOLMUPUNG_PAPER_DOSSIER = 3,
+    TOLMUPUNG_PAPER_REQUEST = 4
+};
+
+/* The answer of every entry. A number that does not belong to the outcome is 0. */
+typedef struct {
+    uint32_t outcome, number, paper, cost, visits, length;
+} tolmupung_answer;
+
+/* A job. Every cell is a 16-bit number, as wide as the widest field; cells that the counts do not use are zero. */
+typedef struct {
+    uint16_t n;             /* operations */
+    uint16_t e;             /* links */
+    uint16_t m;             /* unit types */
+    uint16_t t;             /* deadline, in steps */
+    uint16_t clock;         /* ns */
+    uint16_t wire;          /* ns */
+    uint16_t kinds[24];     /* of each operation */
+    uint16_t from[64];      /* link i runs from operation from[i] .. */
+    uint16_t to[64];        /* .. to operation to[i] */
+    uint16_t costs[8];      /* of each type */
+    uint16_t copies[8];     /* of each type */
+    uint16_t times[64];     /* of kind k at type y: cell 8 * y + k, in ns; 0 where it cannot be done */
+    uint16_t intervals[64]; /* likewise */
+} tolmupung_job;
+
+/* A plan, with cells likewise. */
+typedef struct {
+    uint16_t n;             /* operations, a row each */
+    uint16_t k;             /* instances */
+    uint16_t selection[16]; /* of each instance: 1 selected, 0 not */
+    uint16_t starts[24];    /* of each row */
+    uint16_t insts[24];     /* of each row: the instance that does the operation */
+} tolmupung_plan;
+
+/* What a reader gives: outcome read and the record, or refused and a record of zeros. */
+typedef struct {
+    tolmupung_answer answer;
+    tolmupung_job job;
+} tolmupung_job_read;
+
+typedef struct {
+    tolmupung_answer answer;
+    tolmupung_plan plan;
+} tolmupung_plan_read;
+
+/* The readers: read, or refused by 1 to 6 (job) or by 1, 2, 3, 6 (plan). */
+tolmupung_job_read tolmupung_read_job(const uint8_t *sheet, size_t sheet_len);
+tolmupung_plan_read tolmupung_read_plan(const uint8_t *sheet, size_t sheet_len);
+
+/* The writers: written with the length of the sheet, or refused by 3, 4, 5, 7 (job) or by 3, 7 (plan), then by 22.
+ * The bytes of the output behind the sheet stay as they were. */
+tolmupung_answer tolmupung_write_job(tolmupung_job job, uint8_t *out, size_t out_len);
+tolmupung_answer tolmupung_write_plan(tolmupung_plan plan, uint8_t *out, size_t out_len);
+
+#ifdef __cplusplus
+}
+#endif
+
+/* The library's own functions want a pointer that is not NULL, so from here on each name means a function that
+ * sees to it. */
+static inline const uint8_t *tolmupung_from(const uint8_t *bytes)
+{
+    static const uint8_t none = 0;
+    return bytes ? bytes : &none;
+}
+
+static inline uint8_t *tolmupung_into(uint8_t *bytes)
+{
+    static uint8_t none;
+    return bytes ? bytes : &none;
+}
+
+static inline tolmupung_job_read tolmupung_safe_read_job(const uint8_t *sheet, size_t sheet_len)
+{
+    return tolmupung_read_job(tolmupung_from(sheet), sheet ? sheet_len : 0);
+}
+
+static inline tolmupung_plan_read tolmupung_safe_read_plan(const uint8_t *sheet, size_t sheet_len)
+{
+    return tolmupung_read_plan(tolmupung_from(sheet), sheet ? sheet_len : 0);
+}
+
+static inline tolmupung_answer tolmupung_safe_write_job(tolmupung_job job, uint8_t *out, size_t out_len)
+{
+    return tolmupung_write_job(job, tolmupung_into(out), out ? out_len : 0);
+}
+
+static inline tolmupung_answer tolmupung_safe_write_plan(tolmupung_plan plan, uint8_t *out, size_t out_len)
+{
+    return tolmupung_write_plan(plan, tolmupung_into(out), out ? out_len : 0);
+}
+
+#define tolmupung_read_job tolmupung_safe_read_job
+#define tolmupung_read_plan tolmupung_safe_read_plan
+#define tolmupung_write_job tolmupung_safe_write_job
+#define tolmupung_write_plan tolmupung_safe_write_plan
+
+#endif
