@@ -1,0 +1,77 @@
+//! The library beside this program, on many inputs.
+
+mod entries;
+mod faults;
+mod mixes;
+mod records;
+mod sheets;
+mod tally;
+
+use crate::random::Random;
+use entries::{Checked, Comparison};
+use std::process::ExitCode;
+use std::time::Instant;
+
+type Phase = fn(&mut Comparison, &mut Random, usize) -> Checked;
+
+const PHASES: [(&str, Phase); 12] = [
+    ("sheets of every size", sheets::every_size),
+    ("sound sheets and records", sheets::sound),
+    ("every number in every header field", sheets::every_header),
+    ("damaged sheets", sheets::damaged),
+    ("sheets with broken links and types", sheets::broken_rules),
+    ("random bytes", sheets::random_bytes),
+    ("long sheets", sheets::long_sheets),
+    ("records with every cell changed", records::every_cell),
+    ("records with broken links and types", records::broken_rules),
+    ("records with every mix of faults", records::every_mix),
+    ("records with several faults", records::several_faults),
+    ("outputs of every length", records::every_room),
+];
+
+/// Tries each of the samples, up to the first disagreement.
+fn for_all<F>(samples: Vec<F>, attempt: impl FnMut(&F) -> Checked) -> Checked {
+    samples.iter().try_for_each(attempt)
+}
+
+/// `count` scales how many random jobs and plans each phase tries.
+pub fn run(seed: u64, count: usize) -> ExitCode {
+    let mut comparison = Comparison::new();
+    for (number, (name, phase)) in PHASES.iter().enumerate() {
+        let started = Instant::now();
+        let before = comparison.tally.total();
+        eprint!("{} of {}: {name}", number + 1, PHASES.len());
+        let mut random = Random::new(seed.wrapping_add(number as u64));
+        if let Err(disagreement) = phase(&mut comparison, &mut random, count) {
+            eprintln!();
+            println!("{}", disagreement.text());
+            println!("met among: {name}");
+            println!("repeat with: second compare {seed} {count}");
+            return ExitCode::FAILURE;
+        }
+        let compared = comparison.tally.total() - before;
+        let seconds = started.elapsed().as_secs_f32();
+        eprintln!(": {compared} comparisons, {seconds:.1} s");
+    }
+    report(&comparison, seed, count)
+}
+
+fn report(comparison: &Comparison, seed: u64, count: usize) -> ExitCode {
+    let tally = &comparison.tally;
+    println!("seed {seed}, count {count}: no disagreement");
+    println!(
+        "{} comparisons, {} round trips",
+        tally.total(),
+        tally.round_trips
+    );
+    println!("\nrefusals met, by number:\n{}", tally.table());
+    let never_met = tally.never_met();
+    for line in &never_met {
+        println!("{line}");
+    }
+    if never_met.is_empty() {
+        ExitCode::SUCCESS
+    } else {
+        ExitCode::FAILURE
+    }
+}

@@ -1,0 +1,171 @@
+//! The library under test, called as the C header declares it.
+
+use crate::job::Job;
+use crate::plan::Plan;
+use crate::record::{JobRecord, PlanRecord, Record};
+use crate::refusal::Refusal;
+use crate::sheet::Form;
+use std::mem::{align_of, offset_of, size_of};
+
+const REFUSED: u32 = 0;
+const WRITTEN: u32 = 6;
+const READ: u32 = 7;
+
+#[repr(C)]
+#[derive(Clone, Copy, Debug, PartialEq, Eq)]
+pub struct Answer {
+    pub outcome: u32,
+    pub number: u32,
+    pub paper: u32,
+    pub cost: u32,
+    pub visits: u32,
+    pub length: u32,
+}
+
+/// What a reader gives: tolmupung_job_read, tolmupung_plan_read.
+#[repr(C)]
+#[derive(Clone, Copy, Debug, PartialEq, Eq)]
+pub struct Reading<R> {
+    pub answer: Answer,
+    pub record: R,
+}
+
+const _: () = {
+    assert!(size_of::<Answer>() == 24 && align_of::<Answer>() == 4);
+    assert!(size_of::<Reading<JobRecord>>() == 628 && offset_of!(Reading<JobRecord>, record) == 24);
+    assert!(size_of::<Reading<PlanRecord>>() == 156);
+    assert!(offset_of!(Reading<PlanRecord>, record) == 24);
+};
+
+impl Answer {
+    const NOTHING: Answer = Answer {
+        outcome: REFUSED,
+        number: 0,
+        paper: 0,
+        cost: 0,
+        visits: 0,
+        length: 0,
+    };
+
+    pub fn read() -> Answer {
+        Answer {
+            outcome: READ,
+            ..Answer::NOTHING
+        }
+    }
+
+    pub fn written(length: usize) -> Answer {
+        Answer {
+            outcome: WRITTEN,
+            length: length as u32,
+            ..Answer::NOTHING
+        }
+    }
+
+    pub fn refused(refusal: Refusal) -> Answer {
+        Answer {
+            outcome: REFUSED,
+            number: refusal.number(),
+            paper: refusal.paper as u32,
+            ..Answer::NOTHING
+        }
+    }
+
+    pub fn is_refusal(&self) -> bool {
+        self.outcome == REFUSED
+    }
+}
+
+/// What a reader ought to give.
+impl<R: Record> Reading<R> {
+    pub fn of<F: Form<Record = R>>(read: Result<F, Refusal>) -> Reading<R> {
+        match read {
+            Ok(held) => Reading {
+                answer: Answer::read(),
+                record: held.record(),
+            },
+            Err(refusal) => Reading {
+                answer: Answer::refused(refusal),
+                record: R::EMPTY,
+            },
+        }
+    }
+}
+
+extern "C" {
+    fn tolmupung_read_job(sheet: *const u8, sheet_len: usize) -> Reading<JobRecord>;
+    fn tolmupung_write_job(job: JobRecord, out: *mut u8, out_len: usize) -> Answer;
+    fn tolmupung_read_plan(sheet: *const u8, sheet_len: usize) -> Reading<PlanRecord>;
+    fn tolmupung_write_plan(plan: PlanRecord, out: *mut u8, out_len: usize) -> Answer;
+}
+
+#[derive(Clone, Copy, Debug, PartialEq, Eq, PartialOrd, Ord)]
+pub enum Entry {
+    ReadJob,
+    WriteJob,
+    ReadPlan,
+    WritePlan,
+}
+
+impl Entry {
+    pub const ALL: [Entry; 4] = [
+        Entry::ReadJob,
+        Entry::WriteJob,
+        Entry::ReadPlan,
+        Entry::WritePlan,
+    ];
+
+    pub fn name(self) -> &'static str {
+        match self {
+            Entry::ReadJob => "job reader",
+            Entry::WriteJob => "job writer",
+            Entry::ReadPlan => "plan reader",
+            Entry::WritePlan => "plan writer",
+        }
+    }
+
+    /// The refusal numbers that the entry can give.
+    pub fn numbers(self) -> &'static [u32] {
+        match self {
+            Entry::ReadJob => &[1, 2, 3, 4, 5, 6],
+            Entry::WriteJob => &[3, 4, 5, 7, 22],
+            Entry::ReadPlan => &[1, 2, 3, 6],
+            Entry::WritePlan => &[3, 7, 22],
+        }
+    }
+}
+
+/// A form's two entries. A slice's pointer is never null, not even that of an empty one.
+pub trait Entries: Form {
+    const READER: Entry;
+    const WRITER: Entry;
+
+    fn read_by_library(sheet: &[u8]) -> Reading<Self::Record>;
+    fn write_by_library(record: &Self::Record, out: &mut [u8]) -> Answer;
+}
+
+impl Entries for Job {
+    const READER: Entry = Entry::ReadJob;
+    const WRITER: Entry = Entry::WriteJob;
+
+    fn read_by_library(sheet: &[u8]) -> Reading<JobRecord> {
+        unsafe { tolmupung_read_job(sheet.as_ptr(), sheet.len()) }
+    }
+
+    fn write_by_library(job: &JobRecord, out: &mut [u8]) -> Answer {
+        unsafe { tolmupung_write_job(*job, out.as_mut_ptr(), out.len()) }
+    }
+}
+
+impl Entries for Plan {
+    const READER: Entry = Entry::ReadPlan;
+    const WRITER: Entry = Entry::WritePlan;
+
+    fn read_by_library(sheet: &[u8]) -> Reading<PlanRecord> {
+        unsafe { tolmupung_read_plan(sheet.as_ptr(), sheet.len()) }
+    }
+
+    fn write_by_library(plan: &PlanRecord, out: &mut [u8]) -> Answer {
+        unsafe { tolmupung_write_plan(*plan, out.as_mut_ptr(), out.len()) }
+    }
+}

@@ -1,0 +1,102 @@
+//! The second program of Tolmupung: it reads and writes the office's sheets by the written rules alone, and compares
+//! the library with itself.
+
+mod bits;
+mod compare;
+mod hex;
+mod job;
+mod library;
+mod plan;
+mod random;
+mod record;
+mod refusal;
+mod samples;
+mod sheet;
+mod show;
+
+use random::Random;
+use sheet::Form;
+use std::env;
+use std::io::{self, Write};
+use std::process::ExitCode;
+
+const DEFAULT_SEED: u64 = 1;
+const DEFAULT_COUNT: usize = 200;
+const CALLED_WRONGLY: u8 = 2;
+
+const USAGE: &str = "\
+usage:
+  second compare [SEED] [COUNT]   the library beside this program; COUNT scales the random inputs
+  second show job HEX             a job sheet, field by field
+  second show plan HEX            a plan sheet, field by field
+  second make job P               the sheet of job P, in hex
+  second make job SEED            the sheet of a random job
+  second make plan 1              the sheet of the plan of case 1
+  second make plan SEED           the sheet of a random plan (SEED other than 1)
+numbers are decimal; HEX may have spaces between its digits
+";
+
+fn main() -> ExitCode {
+    let arguments: Vec<String> = env::args_os()
+        .skip(1)
+        .map(|argument| argument.to_string_lossy().into_owned())
+        .collect();
+    let words: Vec<&str> = arguments.iter().map(String::as_str).collect();
+    match words.as_slice() {
+        ["compare", numbers @ ..] => compare(numbers),
+        ["show", "job", digits @ ..] if !digits.is_empty() => show_sheet(digits, show::job),
+        ["show", "plan", digits @ ..] if !digits.is_empty() => show_sheet(digits, show::plan),
+        ["make", "job", "P"] => make_sheet(&samples::job_p()),
+        ["make", "job", seed] => make_random_sheet(seed, samples::random_job),
+        ["make", "plan", "1"] => make_sheet(&samples::plan_of_case_1()),
+        ["make", "plan", seed] => make_random_sheet(seed, samples::random_plan),
+        _ => usage(),
+    }
+}
+
+fn usage() -> ExitCode {
+    eprint!("{USAGE}");
+    ExitCode::from(CALLED_WRONGLY)
+}
+
+fn compare(numbers: &[&str]) -> ExitCode {
+    let seed = numbers
+        .first()
+        .map_or(Ok(DEFAULT_SEED), |text| text.parse());
+    let count = numbers
+        .get(1)
+        .map_or(Ok(DEFAULT_COUNT), |text| text.parse());
+    match (seed, count) {
+        (Ok(seed), Ok(count)) if numbers.len() <= 2 => compare::run(seed, count),
+        _ => usage(),
+    }
+}
+
+fn show_sheet<F: Form>(digits: &[&str], text: fn(&F) -> String) -> ExitCode {
+    let Some(sheet) = hex::bytes_of(&digits.concat()) else {
+        return usage();
+    };
+    match F::read(&sheet) {
+        Ok(held) => print(&text(&held), ExitCode::SUCCESS),
+        Err(refusal) => print(&show::refusal(&refusal), ExitCode::FAILURE),
+    }
+}
+
+fn make_sheet(held: &impl Form) -> ExitCode {
+    print(&(hex::digits_of(&held.sheet()) + "\n"), ExitCode::SUCCESS)
+}
+
+fn make_random_sheet<F: Form>(seed: &str, draw: fn(&mut Random) -> F) -> ExitCode {
+    match seed.parse() {
+        Ok(seed) => make_sheet(&draw(&mut Random::new(seed))),
+        Err(_) => usage(),
+    }
+}
+
+/// Prints the text, and gives the status back unless the output is closed.
+fn print(text: &str, status: ExitCode) -> ExitCode {
+    match io::stdout().write_all(text.as_bytes()) {
+        Ok(()) => status,
+        Err(_) => ExitCode::FAILURE,
+    }
+}
