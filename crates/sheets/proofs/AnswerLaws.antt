@@ -1,47 +1,70 @@
--- Laws of a writer's answer and output.
+-- Laws of answers: how a writer comes to keep its promise, what follows from one kept, and that a promise leaves one answer.
 use Prim.Native.Nat.{ℕ, zero, suc, _≤_, _<_}
-use mathlib.Core.Path.{_≡_, refl, sym, _∙_}
+use mathlib.Core.Path.{_≡_, refl, sym, ap, _∙_}
 use mathlib.Core.Bool.{Bool, true, false}
 use mathlib.Core.List.{List, _++_}
 use native.Mathlib.Omega.{arith}
 use borrow.Author.Tests.{le-leb, lt-leb}
 use lib.Dec.{leb}
-use lib.ListN.{drop}
+use lib.ListN.{length, take, drop}
+use lib.Seq.{take-at}
 use Rattle.basics.specs.Numbers.{outputShort, paperRequest}
-use Rattle.sheets.specs.Answers.{ifRoom, written, output}
+use Rattle.sheets.specs.Answers.{ifRoom, written, output, Writes}
 use Rattle.sheets.specs.declared.Written.{Written}
 use Rattle.sheets.specs.declared.Written.the-variants.{Wrote, Refused}
 
-module _ (fault paper size room : ℕ) where
-  pub written-fault : (k : ℕ) → k ≡ fault → (k ≡ 0 → ⊥) → Refused k paper ≡ written fault paper size room
-  unfolding written
-  written-fault zero e q = absurd (q refl)
-  written-fault (suc k) e q = rw (← e)
+-- the record's fault, its paper, the sheet and its size, and the output
+module _ (fault paper size : ℕ) (sheet out : List ℕ) where
+  -- ---- a writer's three ways
 
-  pub written-short : fault ≡ 0 → room < size → Refused outputShort paperRequest ≡ written fault paper size room
-  unfolding written ifRoom
-  written-short e h = rw (e, lt-leb size room h)
+  pub writes-fault : (k : ℕ) → k ≡ fault → (k ≡ 0 → ⊥) → Writes (written fault paper size (length out)) sheet out (Refused k paper) out
+  unfolding written output
+  writes-fault zero e q = absurd (q refl)
+  writes-fault (suc k) e q = rw (← e) (record { told = refl; bytes = refl })
 
-  pub written-wrote : fault ≡ 0 → size ≤ room → Wrote size ≡ written fault paper size room
-  unfolding written ifRoom
-  written-wrote e h = rw (e, le-leb size room h)
+  pub writes-short : fault ≡ 0 → length out < size → Writes (written fault paper size (length out)) sheet out (Refused outputShort paperRequest) out
+  unfolding written ifRoom output
+  writes-short e h = rw (e, lt-leb size (length out) h) (record { told = refl; bytes = refl })
 
-  -- what was written had no fault, and room
-  pub wrote-fault : (n : ℕ) → Wrote n ≡ written fault paper size room → (fault ≡ 0) × (n ≡ size)
+  pub writes-sheet : (after : List ℕ) → fault ≡ 0 → size ≤ length out → after ≡ sheet ++ drop size out
+      → Writes (written fault paper size (length out)) sheet out (Wrote size) after
+  unfolding written ifRoom output
+  writes-sheet after e h w = rw (e, le-leb size (length out) h) (record { told = refl; bytes = w })
+
+  -- ---- from a promise kept
+
+  -- what was written had no fault
+  wrote : (n : ℕ) → Wrote n ≡ written fault paper size (length out) → (fault ≡ 0) × (n ≡ size)
   unfolding written ifRoom
-  wrote-fault n e = go fault (leb size room) refl refl e
+  wrote n e = go fault (leb size (length out)) refl refl e
     where
-      go : (f : ℕ) (b : Bool) → fault ≡ f → leb size room ≡ b → Wrote n ≡ written fault paper size room → (fault ≡ 0) × (n ≡ size)
+      go : (f : ℕ) (b : Bool) → fault ≡ f → leb size (length out) ≡ b → Wrote n ≡ written fault paper size (length out) → (fault ≡ 0) × (n ≡ size)
       go zero true p q e = (p, let w : Wrote n ≡ Wrote size = e ∙ rw (p, q) in cc)
-      go zero false p q e = absurd (let w : Wrote n ≡ Refused outputShort paperRequest = e ∙ rw (p, q) in let z : _≡_ {A = ℕ} 0 1 = cc in omega arith)
+      go zero false p q e =
+          absurd (let w : Wrote n ≡ Refused outputShort paperRequest = e ∙ rw (p, q) in let z : _≡_ {A = ℕ} 0 1 = cc in omega arith)
       go (suc k) b p q e = absurd (let w : Wrote n ≡ Refused (suc k) paper = e ∙ rw p in let z : _≡_ {A = ℕ} 0 1 = cc in omega arith)
 
--- ---- the output
+  -- and the sheet stands in front
+  pub wrote-sheet : (n : ℕ) (after : List ℕ) → length sheet ≡ size → Writes (written fault paper size (length out)) sheet out (Wrote n) after
+      → (fault ≡ 0) × (take n after ≡ sheet)
+  unfolding output
+  wrote-sheet n after l w =
+      let f = wrote n (w .told) in
+      (f .0, rw (w .bytes, ← w .told) (take-at sheet _ n (l ∙ sym (f .1))))
 
-pub output-refused : (k paper : ℕ) (sheet out : List ℕ) → out ≡ output (Refused k paper) sheet out
-unfolding output
-output-refused k paper sheet out = refl
+  -- without fault and with room the sheet is written
+  pub sheet-wrote : (r : Written) (after : List ℕ) → fault ≡ 0 → length sheet ≡ size → length sheet ≤ length out
+      → Writes (written fault paper size (length out)) sheet out r after → (r ≡ Wrote (length sheet)) × (after ≡ sheet ++ drop (length sheet) out)
+  unfolding written ifRoom output
+  sheet-wrote r after e l h w =
+      let q : leb (length sheet) (length out) ≡ true = le-leb (length sheet) (length out) h in
+      (rw (e, ← l, q) at (w .told), rw (e, ← l, q) at (w .bytes))
 
-pub output-wrote : (size : ℕ) (sheet out after : List ℕ) → after ≡ sheet ++ drop size out → after ≡ output (Wrote size) sheet out
-unfolding output
-output-wrote size sheet out after e = e
+-- ---- one answer
+
+pub one-answer : {A : Type 0} (answer r r' : A) → r ≡ answer → r' ≡ answer → r ≡ r'
+one-answer answer r r' e e' = e ∙ sym e'
+
+pub one-output : (answer : Written) (sheet out : List ℕ) (r r' : Written) (after after' : List ℕ)
+    → Writes answer sheet out r after → Writes answer sheet out r' after' → (r ≡ r') × (after ≡ after')
+one-output answer sheet out r r' after after' w w' = (w .told ∙ sym (w' .told), w .bytes ∙ sym (w' .bytes))

@@ -1,5 +1,5 @@
--- Reading and writing a job's sheet undo each other: `job-read-written`, `job-written-read`. An entry's promise leaves
--- one answer: `job-reads-once`, `job-writes-once`.
+-- Reading and writing a job's sheet undo each other: `job-read-written`, `job-written-read`; and so of the entries'
+-- promises: `job-read-output`, `job-write-input`.
 use Prim.Native.Nat.{ℕ, zero, suc, _+_, _*_, _/_, _%_, _^_, _≤_, _<_}
 use mathlib.Core.Path.{_≡_, refl, sym, ap, ap₂, subst, _∙_}
 use mathlib.Core.Bool.{true}
@@ -7,8 +7,8 @@ use mathlib.Core.List.{List, [], _∷_, _++_}
 use native.Mathlib.Omega.{arith}
 use borrow.Author.Tests.{le-leb}
 use lib.ListN.{length, take, drop}
-use lib.Seq.{take-at}
 use Rattle.basics.specs.Faults.{_orElse_}
+use Rattle.basics.specs.Numbers.{paperJob}
 use Rattle.basics.specs.Tables.{cell, cells, within, blank}
 use Rattle.basics.proofs.CountLaws.{both-and}
 use Rattle.basics.proofs.FaultLaws.{orElse-none, none-orElse, none-unless, orElse-go}
@@ -18,10 +18,10 @@ use Rattle.bits.specs.Sheet.{Field, total, bytesFor, fill, pack, many}
 use Rattle.bits.proofs.FieldLaws.{field-lt}
 use Rattle.bits.proofs.SheetLaws.{Holds, holds-pack, pack-holds, fill-pack, length-pack, holds-append, append-holds, holds-many, many-holds}
 use Rattle.sheets.specs.Limits.{jobForm, maxOps, maxLinks, maxTypes, pairCells, kindCount, maxKind, maxSteps, maxTime, opBits, stepBits, timeBits, kindBits, costBits, copiesBits, tAt, clockAt, wireAt, jobHead, linkBits, pairBits, typeHead, typeBits}
-use Rattle.sheets.specs.Answers.{written, output}
+use Rattle.sheets.specs.Answers.{Writes}
 use Rattle.sheets.specs.Columns.{columnAt, pairAt, single, double}
-use Rattle.sheets.specs.JobRecord.{JobShape, countsFault, tablesBlank, jobFits, rulesFault, recordFault}
-use Rattle.sheets.specs.JobSheet.{linksAt, typesAt, jobEnd, nIn, eIn, mIn, clockIn, jobOf, jobIn, headFault, tablesFault, bodyFault, jobFault, jobRead, readJob, typeFields, graphFields, unitFields, jobFields, jobSheet, writeJob, WritesJob}
+use Rattle.sheets.specs.JobRecord.{JobShape, countsFault, graphBlank, unitsBlank, jobFits, rulesFault, recordFault}
+use Rattle.sheets.specs.JobSheet.{linksAt, typesAt, jobEnd, nIn, eIn, mIn, clockIn, jobOf, jobIn, headFault, tablesFault, bodyFault, jobFault, jobRead, readJob, typeFields, graphFields, unitFields, jobFields, jobSheet, writeJob}
 use Rattle.sheets.specs.declared.Job.{Job}
 use Rattle.sheets.specs.declared.JobRead.{JobRead}
 use Rattle.sheets.specs.declared.Reading.the-variants.{Read, Refused}
@@ -29,7 +29,7 @@ use Rattle.sheets.specs.declared.Written.{Written}
 use Rattle.sheets.specs.declared.Written.the-variants.{Wrote}
 use Rattle.sheets.proofs.GroupLaws.{whole-none, none-whole, form-none, none-form, fill-none, none-fill}
 use Rattle.sheets.proofs.ColumnLaws.{total-double, read-single, read-double, read-double', single-read, double-read}
-use Rattle.sheets.proofs.AnswerLaws.{written-wrote, wrote-fault}
+use Rattle.sheets.proofs.AnswerLaws.{wrote-sheet, sheet-wrote}
 use Rattle.sheets.proofs.JobLaws.{Counts, head-counts, job-head}
 use Rattle.sheets.proofs.RecordLaws.{JobSound, none-record, tables-rules}
 use Rattle.sheets.proofs.JobFieldLaws.{total-type, total-kinds, total-graph, total-job, fit-job}
@@ -264,7 +264,7 @@ module _ (s : List ℕ) (z : jobFault s ≡ 0) where
       (subst (λ (k : ℕ). field s k (fill k) ≡ 0) (sym e) (behind .1)) spelt
 
   fits-none : jobFits (jobIn s) ≡ true
-  unfolding jobFits tablesBlank jobOf
+  unfolding jobFits graphBlank unitsBlank jobOf
   fits-none =
       let n : ℕ = nIn s in
       let e : ℕ = eIn s in
@@ -274,11 +274,11 @@ module _ (s : List ℕ) (z : jobFault s ≡ 0) where
       let steps = le-leb (field s tAt stepBits) maxSteps (omega (arith, field-lt s tAt stepBits)) in
       let wire = le-leb (field s wireAt timeBits) maxTime (omega (arith, field-lt s wireAt timeBits)) in
       let types : ℕ = typesAt n e in
-      both-and _ _ (both-and _ _ (both-and _ _ (both-and _ _ steps wire) kinds) (blank-cells (columnAt s jobHead kindBits kindBits) n maxOps))
-      (both-and _ _ (both-and _ _ (both-and _ _ (both-and _ _ (both-and _ _
-      (blank-cells (columnAt s (linksAt n) linkBits opBits) e maxLinks)
-      (blank-cells (columnAt s (linksAt n + opBits) linkBits opBits) e maxLinks))
-      (blank-cells (columnAt s types typeBits costBits) m maxTypes))
+      both-and _ _ (both-and _ _ (both-and _ _ (both-and _ _ steps wire) kinds)
+      (both-and _ _ (both-and _ _ (blank-cells (columnAt s jobHead kindBits kindBits) n maxOps)
+      (blank-cells (columnAt s (linksAt n) linkBits opBits) e maxLinks))
+      (blank-cells (columnAt s (linksAt n + opBits) linkBits opBits) e maxLinks)))
+      (both-and _ _ (both-and _ _ (both-and _ _ (blank-cells (columnAt s types typeBits costBits) m maxTypes)
       (blank-cells (columnAt s (types + costBits) typeBits copiesBits) m maxTypes))
       (blank-cells (pairAt s (types + typeHead)) (kindCount * m) pairCells))
       (blank-cells (pairAt s (types + typeHead + timeBits)) (kindCount * m) pairCells))
@@ -312,31 +312,18 @@ job-written-read s j hs e =
 -- ---- the same of the entries' promises
 
 -- what the writer has written is read as the record
-pub job-read-output : (j : Job) → JobShape j → (before after : List ℕ) (size : ℕ) → WritesJob j before (Wrote size) after
+pub job-read-output : (j : Job) → JobShape j → (before after : List ℕ) (size : ℕ) → Writes (writeJob j (length before)) (jobSheet j) before (Wrote size) after
     → readJob (take size after) ≡ record { answer = Read; job = j }
-unfolding writeJob output
+unfolding writeJob
 job-read-output j t before after size w =
-    let f = wrote-fault _ _ _ _ size (w .answer) in
-    let l : length (jobSheet j) ≡ size = sheet-length j ∙ sym (f .1) in
-    rw (w .bytes, take-at (jobSheet j) _ size l) (job-read-written j t (f .0))
+    let f = wrote-sheet (recordFault j) paperJob (bytesFor (jobEnd (j .n) (j .e) (j .m))) (jobSheet j) before size after (sheet-length j) w in
+    rw (f .1) (job-read-written j t (f .0))
 
 -- what the reader has read is written as the sheet, wherever it fits
 pub job-write-input : (s : List ℕ) (j : Job) (before after : List ℕ) (r : Written) → Bytes s → readJob s ≡ record { answer = Read; job = j }
-    → length s ≤ length before → WritesJob j before r after → (r ≡ Wrote (length s)) × (after ≡ s ++ drop (length s) before)
-unfolding writeJob output
+    → length s ≤ length before → Writes (writeJob j (length before)) (jobSheet j) before r after → (r ≡ Wrote (length s)) × (after ≡ s ++ drop (length s) before)
+unfolding writeJob
 job-write-input s j before after r hs e l w =
     let q = job-written-read s j hs e in
-    let n : bytesFor (jobEnd (j .n) (j .e) (j .m)) ≡ length s = sym (ap length (sym (q .0)) ∙ sheet-length j) in
-    let a : r ≡ Wrote (length s) = w .answer ∙ sym (written-wrote _ _ _ _ (q .1) (rw n l)) ∙ ap Wrote n in
-    (a, w .bytes ∙ rw (a, q .0))
-
--- ---- an entry's promise leaves one answer
-
-pub job-reads-once : (s : List ℕ) (r r' : JobRead) → r ≡ readJob s → r' ≡ readJob s → r ≡ r'
-job-reads-once s r r' e e' = e ∙ sym e'
-
-pub job-writes-once : (j : Job) (before : List ℕ) (r r' : Written) (after after' : List ℕ)
-    → WritesJob j before r after → WritesJob j before r' after' → (r ≡ r') × (after ≡ after')
-job-writes-once j before r r' after after' w w' =
-    let e : r ≡ r' = w .answer ∙ sym (w' .answer) in
-    (e, w .bytes ∙ ap (λ (x : Written). output x (jobSheet j) before) e ∙ sym (w' .bytes))
+    let l' : length (jobSheet j) ≤ length before = rw (q .0) l in
+    rw (q .0) at (sheet-wrote (recordFault j) paperJob (bytesFor (jobEnd (j .n) (j .e) (j .m))) (jobSheet j) before r after (q .1) (sheet-length j) l' w)

@@ -1,5 +1,5 @@
--- Reading and writing a plan's sheet undo each other: `plan-read-written`, `plan-written-read`. An entry's promise leaves
--- one answer: `plan-reads-once`, `plan-writes-once`.
+-- Reading and writing a plan's sheet undo each other: `plan-read-written`, `plan-written-read`; and so of the entries'
+-- promises: `plan-read-output`, `plan-write-input`.
 use Prim.Native.Nat.{ℕ, zero, suc, _+_, _*_, _^_, _≤_, _<_}
 use mathlib.Core.Path.{_≡_, refl, sym, ap, ap₂, subst, _∙_}
 use mathlib.Core.Bool.{true}
@@ -8,8 +8,8 @@ use native.Mathlib.Omega.{arith}
 use borrow.Author.Tests.{le-leb}
 use lib.Dec.{leb}
 use lib.ListN.{length, take, drop}
-use lib.Seq.{take-at}
 use Rattle.basics.specs.Faults.{_orElse_}
+use Rattle.basics.specs.Numbers.{paperPlan}
 use Rattle.basics.specs.Tables.{cell, cells, within, blank}
 use Rattle.basics.proofs.CountLaws.{both-and}
 use Rattle.basics.proofs.FaultLaws.{orElse-none, none-orElse, none-unless, orElse-go}
@@ -19,10 +19,10 @@ use Rattle.bits.specs.Sheet.{Field, total, bytesFor, fill, pack, many}
 use Rattle.bits.proofs.FieldLaws.{field-lt}
 use Rattle.bits.proofs.SheetLaws.{Holds, holds-pack, pack-holds, fill-pack, length-pack, holds-append, append-holds}
 use Rattle.sheets.specs.Limits.{planForm, maxOps, maxInsts, maxMark, maxSteps, maxInst, formBits, opBits, instCountBits, markBits, stepBits, instBits, rowBits, nAt, kAt, planHead}
-use Rattle.sheets.specs.Answers.{written, output}
+use Rattle.sheets.specs.Answers.{Writes}
 use Rattle.sheets.specs.Groups.{runsOut, fillFault}
 use Rattle.sheets.specs.Columns.{columnAt, single, double}
-use Rattle.sheets.specs.PlanSheet.{PlanShape, rowsAt, planEnd, opsIn, instsIn, planOf, planIn, sizesFault, planHeadFault, planBodyFault, planFault, planRead, readPlan, planFits, planRecordFault, planFields, planSheet, writePlan, WritesPlan}
+use Rattle.sheets.specs.PlanSheet.{PlanShape, rowsAt, planEnd, opsIn, instsIn, planOf, planIn, sizesFault, planHeadFault, planBodyFault, planFault, planRead, readPlan, planFits, planRecordFault, planFields, planSheet, writePlan}
 use Rattle.sheets.specs.declared.Plan.{Plan}
 use Rattle.sheets.specs.declared.PlanRead.{PlanRead}
 use Rattle.sheets.specs.declared.Reading.{Reading}
@@ -31,7 +31,7 @@ use Rattle.sheets.specs.declared.Written.{Written}
 use Rattle.sheets.specs.declared.Written.the-variants.{Wrote}
 use Rattle.sheets.proofs.GroupLaws.{whole-none, none-whole, form-none, none-form, fill-none, none-fill}
 use Rattle.sheets.proofs.ColumnLaws.{read-single, read-double, read-double', single-read, double-read}
-use Rattle.sheets.proofs.AnswerLaws.{written-wrote, wrote-fault}
+use Rattle.sheets.proofs.AnswerLaws.{wrote-sheet, sheet-wrote}
 use Rattle.sheets.proofs.PlanLaws.{none-sizes, head-sizes}
 use Rattle.sheets.proofs.PlanFieldLaws.{PlanSound, none-plan, total-marks, total-plan, fit-plan}
 
@@ -172,31 +172,18 @@ plan-written-read s p hs e =
 -- ---- the same of the entries' promises
 
 -- what the writer has written is read as the record
-pub plan-read-output : (p : Plan) → PlanShape p → (before after : List ℕ) (size : ℕ) → WritesPlan p before (Wrote size) after
+pub plan-read-output : (p : Plan) → PlanShape p → (before after : List ℕ) (size : ℕ) → Writes (writePlan p (length before)) (planSheet p) before (Wrote size) after
     → readPlan (take size after) ≡ record { answer = Read; plan = p }
-unfolding writePlan output
+unfolding writePlan
 plan-read-output p t before after size w =
-    let f = wrote-fault _ _ _ _ size (w .answer) in
-    let l : length (planSheet p) ≡ size = sheet-length p ∙ sym (f .1) in
-    rw (w .bytes, take-at (planSheet p) _ size l) (plan-read-written p t (f .0))
+    let f = wrote-sheet (planRecordFault p) paperPlan (bytesFor (planEnd (p .n) (p .k))) (planSheet p) before size after (sheet-length p) w in
+    rw (f .1) (plan-read-written p t (f .0))
 
 -- what the reader has read is written as the sheet, wherever it fits
 pub plan-write-input : (s : List ℕ) (p : Plan) (before after : List ℕ) (r : Written) → Bytes s → readPlan s ≡ record { answer = Read; plan = p }
-    → length s ≤ length before → WritesPlan p before r after → (r ≡ Wrote (length s)) × (after ≡ s ++ drop (length s) before)
-unfolding writePlan output
+    → length s ≤ length before → Writes (writePlan p (length before)) (planSheet p) before r after → (r ≡ Wrote (length s)) × (after ≡ s ++ drop (length s) before)
+unfolding writePlan
 plan-write-input s p before after r hs e l w =
     let q = plan-written-read s p hs e in
-    let n : bytesFor (planEnd (p .n) (p .k)) ≡ length s = sym (ap length (sym (q .0)) ∙ sheet-length p) in
-    let a : r ≡ Wrote (length s) = w .answer ∙ sym (written-wrote _ _ _ _ (q .1) (rw n l)) ∙ ap Wrote n in
-    (a, w .bytes ∙ rw (a, q .0))
-
--- ---- an entry's promise leaves one answer
-
-pub plan-reads-once : (s : List ℕ) (r r' : PlanRead) → r ≡ readPlan s → r' ≡ readPlan s → r ≡ r'
-plan-reads-once s r r' e e' = e ∙ sym e'
-
-pub plan-writes-once : (p : Plan) (before : List ℕ) (r r' : Written) (after after' : List ℕ)
-    → WritesPlan p before r after → WritesPlan p before r' after' → (r ≡ r') × (after ≡ after')
-plan-writes-once p before r r' after after' w w' =
-    let e : r ≡ r' = w .answer ∙ sym (w' .answer) in
-    (e, w .bytes ∙ ap (λ (x : Written). output x (planSheet p) before) e ∙ sym (w' .bytes))
+    let l' : length (planSheet p) ≤ length before = rw (q .0) l in
+    rw (q .0) at (sheet-wrote (planRecordFault p) paperPlan (bytesFor (planEnd (p .n) (p .k))) (planSheet p) before r after (q .1) (sheet-length p) l' w)

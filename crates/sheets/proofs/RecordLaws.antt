@@ -16,7 +16,7 @@ use Rattle.basics.proofs.TableLaws.{within-each}
 use Rattle.bits.specs.Sheet.{bytesFor}
 use Rattle.sheets.specs.Limits.{maxCopies, maxInsts, kindCount, maxKind, maxSteps, maxTime, linkBits, typeBits}
 use Rattle.sheets.specs.Groups.{runsOut}
-use Rattle.sheets.specs.JobRecord.{countsFault, ascends, linkFault, pairOk, pairSound, copiesOk, typeFault, tablesBlank, jobFits, rulesFault, recordFault}
+use Rattle.sheets.specs.JobRecord.{countsFault, ascends, linkFault, pairOk, pairSound, copiesOk, typeFault, graphBlank, unitsBlank, jobFits, rulesFault, recordFault}
 use Rattle.sheets.specs.JobSheet.{linksAt, typesAt, jobEnd, linkGroup, typeGroup, tablesFault}
 use Rattle.sheets.specs.declared.Job.{Job}
 use Rattle.sheets.proofs.GroupLaws.{whole-none}
@@ -89,34 +89,34 @@ pub record JobSound (j : Job) : Type 0 where
   pub unusedIntervals : blank (j .intervals) (kindCount * j .m) ≡ true
 
 pub none-record : (j : Job) → recordFault j ≡ 0 → JobSound j
-unfolding recordFault rulesFault jobFits tablesBlank
+unfolding recordFault rulesFault jobFits graphBlank unitsBlank
 none-record j h =
     let r = orElse-none _ _ (orElse-none _ _ h .1) in
     let l = orElse-none _ _ (r .0) in
     let f = and-both _ _ (unless-none _ 6 (r .1)) in
-    let k = and-both _ _ (f .0) in
+    let g = and-both _ _ (f .0) in
+    let k = and-both _ _ (g .0) in
     let w = and-both _ _ (k .0) in
-    let t = and-both _ _ (w .0) in
-    let b1 = and-both _ _ (f .1) in
-    let b2 = and-both _ _ (b1 .0) in
-    let b3 = and-both _ _ (b2 .0) in
-    let b4 = and-both _ _ (b3 .0) in
-    let b5 = and-both _ _ (b4 .0) in
+    let g1 = and-both _ _ (g .1) in
+    let g2 = and-both _ _ (g1 .0) in
+    let u1 = and-both _ _ (f .1) in
+    let u2 = and-both _ _ (u1 .0) in
+    let u3 = and-both _ _ (u2 .0) in
     record {
       counts = none-counts _ _ _ _ (orElse-none _ _ h .0);
-      steps = leb-true _ _ (t .0);
-      wire = leb-true _ _ (t .1);
-      kinds = within-each (j .kinds) maxKind (j .n) (w .1);
+      steps = leb-true _ _ (w .0);
+      wire = leb-true _ _ (w .1);
+      kinds = within-each (j .kinds) maxKind (j .n) (k .1);
       links = λ i q. none-link (j .from) (j .to) (j .n) i (first-none (linkFault (j .from) (j .to) (j .n)) (j .e) (l .0) i q);
       copies = λ y q. none-copies (j .copies) (j .times) (j .intervals) y (first-none (typeFault (j .copies) (j .times) (j .intervals)) (j .m) (l .1) y q);
       pairs = none-pairs (j .copies) (j .times) (j .intervals) (j .m) (l .1);
-      unusedKinds = k .1;
-      unusedFrom = b5 .0;
-      unusedTo = b5 .1;
-      unusedCosts = b4 .1;
-      unusedCopies = b3 .1;
-      unusedTimes = b2 .1;
-      unusedIntervals = b1 .1;
+      unusedKinds = g2 .0;
+      unusedFrom = g2 .1;
+      unusedTo = g1 .1;
+      unusedCosts = u3 .0;
+      unusedCopies = u3 .1;
+      unusedTimes = u2 .1;
+      unusedIntervals = u1 .1;
     }
 
 -- ---- in a sheet with room for all of them, links and types have the record's own faults

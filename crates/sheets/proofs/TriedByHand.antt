@@ -11,7 +11,7 @@ use Rattle.bits.specs.Bits.{bit, field, bytesOf}
 use Rattle.bits.specs.Sheet.{total, number, pack, many}
 use Rattle.sheets.specs.Answers.{ifRoom, written}
 use Rattle.sheets.specs.Groups.{runsOut, formFault, fillFault}
-use Rattle.sheets.specs.JobRecord.{countsFault, ascends, linkFault, pairSound, typeFault, tablesBlank, jobFits, rulesFault, recordFault}
+use Rattle.sheets.specs.JobRecord.{countsFault, ascends, linkFault, pairSound, typeFault, jobFits, rulesFault, recordFault}
 use Rattle.sheets.specs.JobSheet.{jobOf, headFault, linkGroup, typeGroup, tablesFault, bodyFault, jobFault, jobRead, readJob, typeFields, jobSheet, writeJob}
 use Rattle.sheets.specs.PlanSheet.{planOf, sizesFault, planHeadFault, planBodyFault, planFault, planRead, readPlan, planFits, planRecordFault, planSheet, writePlan}
 use Rattle.sheets.specs.declared.Job.{Job}

@@ -1,5 +1,6 @@
 -- What each case of an answer stands for. A fault's number and its paper give the case; 0 is no fault.
 use Prim.Native.Nat.{ℕ, zero, suc}
+use mathlib.Core.Path.{_≡_}
 use mathlib.Core.Bool.{Bool, true, false}
 use mathlib.Core.List.{List, _++_}
 use lib.Dec.{leb}
@@ -23,3 +24,9 @@ written (suc k) paper size room = Refused (suc k) paper
 unfoldable pub output : Written → List ℕ → List ℕ → List ℕ
 output (Wrote size) sheet out = sheet ++ drop size out
 output (Refused k paper) sheet out = out
+
+-- the promise of a writer that is to answer `answer` and write `sheet`: its answer r, and the output's bytes `after`, where
+-- they were `before`
+pub record Writes (answer : Written) (sheet before : List ℕ) (r : Written) (after : List ℕ) : Type 0 where
+  pub told : r ≡ answer
+  pub bytes : after ≡ output answer sheet before

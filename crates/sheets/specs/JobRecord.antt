@@ -60,16 +60,17 @@ typeFault copies times intervals y =
 
 -- ---- a record: its numbers fit their fields, and its unused cells are 0
 
-unfoldable pub tablesBlank : Job → Bool
-tablesBlank j =
-    blank (j .from) (j .e) && blank (j .to) (j .e)
-    && blank (j .costs) (j .m) && blank (j .copies) (j .m)
+unfoldable pub graphBlank : Job → Bool
+graphBlank j = blank (j .kinds) (j .n) && blank (j .from) (j .e) && blank (j .to) (j .e)
+
+unfoldable pub unitsBlank : Job → Bool
+unitsBlank j =
+    blank (j .costs) (j .m) && blank (j .copies) (j .m)
     && blank (j .times) (kindCount * j .m) && blank (j .intervals) (kindCount * j .m)
 
 unfoldable pub jobFits : Job → Bool
 jobFits j =
-    leb (j .t) maxSteps && leb (j .wire) maxTime && within (j .kinds) maxKind (j .n)
-    && blank (j .kinds) (j .n) && tablesBlank j
+    leb (j .t) maxSteps && leb (j .wire) maxTime && within (j .kinds) maxKind (j .n) && graphBlank j && unitsBlank j
 
 -- ---- the first fault of a record to be written
 

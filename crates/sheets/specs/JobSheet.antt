@@ -1,5 +1,5 @@
 -- The job sheet: `jobIn` is the record that its bytes spell, `jobFault` its first fault, `readJob` the reader's answer;
--- `jobSheet` is a record's sheet, `writeJob` the writer's answer, and `WritesJob` its whole promise.
+-- `jobSheet` is a record's sheet, `writeJob` the writer's answer.
 use Prim.Native.Nat.{ℕ, zero, suc, _+_, _*_, _^_, _<_}
 use mathlib.Core.Path.{_≡_}
 use mathlib.Core.List.{List, [], _∷_, _++_}
@@ -10,7 +10,7 @@ use Rattle.basics.specs.Tables.{cell, cells}
 use Rattle.bits.specs.Bits.{field}
 use Rattle.bits.specs.Sheet.{Field, of, bytesFor, pack, many}
 use Rattle.sheets.specs.Limits.{jobForm, maxOps, maxLinks, maxTypes, pairCells, kindCount, formBits, opBits, linkCountBits, typeCountBits, stepBits, timeBits, kindBits, costBits, copiesBits, nAt, eAt, mAt, tAt, clockAt, wireAt, jobHead, linkBits, typeHead, typeBits}
-use Rattle.sheets.specs.Answers.{written, output}
+use Rattle.sheets.specs.Answers.{written}
 use Rattle.sheets.specs.Groups.{runsOut, formFault, fillFault}
 use Rattle.sheets.specs.Columns.{columnAt, pairAt, single, double}
 use Rattle.sheets.specs.JobRecord.{countsFault, linkFault, typeFault, recordFault}
@@ -157,11 +157,6 @@ jobSheet j = pack (jobFields j)
 -- into an output of `room` bytes
 unfoldable pub writeJob : Job → ℕ → Written
 writeJob j room = written (recordFault j) paperJob (bytesFor (jobEnd (j .n) (j .e) (j .m))) room
-
--- the answer `r` and the output's bytes `after`, where they were `before`
-pub record WritesJob (j : Job) (before : List ℕ) (r : Written) (after : List ℕ) : Type 0 where
-  pub answer : r ≡ writeJob j (length before)
-  pub bytes : after ≡ output r (jobSheet j) before
 
 -- ---- inside the writer
 

@@ -1,5 +1,5 @@
 -- The plan sheet: `planIn` is the record that its bytes spell, `planFault` its first fault, `readPlan` the reader's answer;
--- `planSheet` is a record's sheet, `writePlan` the writer's answer, and `WritesPlan` its whole promise.
+-- `planSheet` is a record's sheet, `writePlan` the writer's answer.
 use Prim.Native.Nat.{ℕ, zero, suc, _+_, _*_}
 use mathlib.Core.Path.{_≡_}
 use mathlib.Core.Bool.{Bool, _&&_}
@@ -12,7 +12,7 @@ use Rattle.basics.specs.Tables.{cells, within, blank}
 use Rattle.bits.specs.Bits.{field}
 use Rattle.bits.specs.Sheet.{Field, of, bytesFor, pack, many}
 use Rattle.sheets.specs.Limits.{planForm, maxOps, maxInsts, maxInst, maxSteps, maxMark, formBits, opBits, instCountBits, stepBits, instBits, markBits, nAt, kAt, planHead, rowBits}
-use Rattle.sheets.specs.Answers.{written, output}
+use Rattle.sheets.specs.Answers.{written}
 use Rattle.sheets.specs.Groups.{runsOut, formFault, fillFault}
 use Rattle.sheets.specs.Columns.{columnAt, single, double}
 use Rattle.sheets.specs.declared.Plan.{Plan}
@@ -118,8 +118,3 @@ planSheet p = pack (planFields p)
 -- into an output of `room` bytes
 unfoldable pub writePlan : Plan → ℕ → Written
 writePlan p room = written (planRecordFault p) paperPlan (bytesFor (planEnd (p .n) (p .k))) room
-
--- the answer `r` and the output's bytes `after`, where they were `before`
-pub record WritesPlan (p : Plan) (before : List ℕ) (r : Written) (after : List ℕ) : Type 0 where
-  pub answer : r ≡ writePlan p (length before)
-  pub bytes : after ≡ output r (planSheet p) before

@@ -7,8 +7,9 @@ ghost use Rattle.basics.specs.Faults.{first};
 ghost use Rattle.basics.specs.Tables.{cell as cellOf};
 ghost use Rattle.bits.specs.Sheet.{many, putAll, bytesFor};
 ghost use Rattle.sheets.specs.Limits.{kindCount, maxOps, maxLinks, maxTypes, maxSteps, maxTime, tAt, jobHead, typeBits};
-ghost use Rattle.sheets.specs.JobRecord.{countsFault, ascends as ascendsAt, linkFault, pairOk, pairSound, typeFault, tablesBlank, jobFits, recordFault};
-ghost use Rattle.sheets.specs.JobSheet.{jobOf, jobIn, typesAt, jobEnd, headFault, linkGroup, typeGroup, tablesFault, bodyFault, jobRefused, readJob, countFields, timeFields, headFields, typeFields, graphFields, unitFields, TypesFit, WritesJob};
+ghost use Rattle.sheets.specs.Answers.{Writes};
+ghost use Rattle.sheets.specs.JobRecord.{countsFault, ascends as ascendsAt, linkFault, pairOk, pairSound, typeFault, graphBlank, unitsBlank, jobFits, recordFault};
+ghost use Rattle.sheets.specs.JobSheet.{jobOf, jobIn, typesAt, jobEnd, headFault, linkGroup, typeGroup, tablesFault, bodyFault, jobRefused, readJob, countFields, timeFields, headFields, typeFields, graphFields, unitFields, TypesFit, jobSheet, writeJob};
 use crate::Job;
 use crate::JobRead;
 use crate::Reading;
@@ -263,24 +264,28 @@ pub fn read_job(sheet: &[u8]) -> JobRead
     }
 }
 
-// The unused cells of links and types are 0.
-fn tables_blank(j: Job) -> bool
-    ensures { λ r. ⌜ r ≡ tablesBlank j ⌝ }
+// The unused cells of kinds and links are 0.
+fn graph_blank(j: Job) -> bool
+    ensures { λ r. ⌜ r ≡ graphBlank j ⌝ }
 {
+    let kinds = j.kinds;
     let from = j.from;
     let to = j.to;
+    let e = j.e as usize;
+    blank(&kinds, j.n as usize) & blank(&from, e) & blank(&to, e)
+}
+
+// The unused cells of types are 0.
+fn units_blank(j: Job) -> bool
+    ensures { λ r. ⌜ r ≡ unitsBlank j ⌝ }
+{
     let costs = j.costs;
     let copies = j.copies;
     let times = j.times;
     let intervals = j.intervals;
-    let e = j.e as usize;
     let m = j.m as usize;
-    blank(&from, e)
-        & blank(&to, e)
-        & blank(&costs, m)
-        & blank(&copies, m)
-        & blank(&times, KIND_COUNT * m)
-        & blank(&intervals, KIND_COUNT * m)
+    let pairs = KIND_COUNT * m;
+    blank(&costs, m) & blank(&copies, m) & blank(&times, pairs) & blank(&intervals, pairs)
 }
 
 // The numbers that no other rule bounds fit their fields, and unused cells are 0.
@@ -288,9 +293,8 @@ fn job_fits(j: Job) -> bool
     ensures { λ r. ⌜ r ≡ jobFits j ⌝ }
 {
     let kinds = j.kinds;
-    let n = j.n as usize;
-    let numbers = (j.t <= MAX_STEPS) & (j.wire <= MAX_TIME) & basics::within(&kinds, MAX_KIND, n);
-    numbers & blank(&kinds, n) & tables_blank(j)
+    let small = basics::within(&kinds, MAX_KIND, j.n as usize);
+    (j.t <= MAX_STEPS) & (j.wire <= MAX_TIME) & small & graph_blank(j) & units_blank(j)
 }
 
 // The bits of the job's sheet.
@@ -412,7 +416,7 @@ fn put_units(out: &mut [u8], j: Job)
 
 // Writes the job's sheet from the output's first byte on. A refusal changes no byte.
 pub fn write_job(job: Job, out: &mut [u8]) -> Written
-    ensures { λ r. ⌜ WritesJob job (now (out .entry)) r (now (out .exit)) ⌝ }
+    ensures { λ r. ⌜ Writes (writeJob job (length (now (out .entry)))) (jobSheet job) (now (out .entry)) r (now (out .exit)) ⌝ }
 {
     let fault = record_fault(job);
     if fault != 0 {

@@ -1,9 +1,10 @@
 // The entries for C, as include/tolmupung.h declares them.
 ghost use mathlib.Core.Path.{_≡_};
-ghost use Rattle.sheets.specs.JobSheet.{readJob};
-ghost use Rattle.sheets.specs.PlanSheet.{readPlan};
+ghost use lib.ListN.{length};
+ghost use Rattle.sheets.specs.JobSheet.{readJob, jobSheet, writeJob};
+ghost use Rattle.sheets.specs.PlanSheet.{readPlan, planSheet, writePlan};
 ghost use Rattle.tolmupung.specs.Answers.{readingSays, writtenSays};
-ghost use Rattle.tolmupung.specs.Promises.{jobSays, planSays, WritesJob, WritesPlan};
+ghost use Rattle.tolmupung.specs.Promises.{jobSays, planSays, Writes};
 use sheets::Job;
 use sheets::Plan;
 use sheets::Reading;
@@ -99,14 +100,14 @@ pub extern "C" fn tolmupung_read_plan(sheet: &[u8]) -> PlanRead
 
 #[no_mangle]
 pub extern "C" fn tolmupung_write_job(job: Job, out: &mut [u8]) -> Answer
-    ensures { λ r. ⌜ WritesJob job (now (out .entry)) r (now (out .exit)) ⌝ }
+    ensures { λ r. ⌜ Writes (writeJob job (length (now (out .entry)))) (jobSheet job) (now (out .entry)) r (now (out .exit)) ⌝ }
 {
     written_says(sheets::jobs::write_job(job, out))
 }
 
 #[no_mangle]
 pub extern "C" fn tolmupung_write_plan(plan: Plan, out: &mut [u8]) -> Answer
-    ensures { λ r. ⌜ WritesPlan plan (now (out .entry)) r (now (out .exit)) ⌝ }
+    ensures { λ r. ⌜ Writes (writePlan plan (length (now (out .entry)))) (planSheet plan) (now (out .entry)) r (now (out .exit)) ⌝ }
 {
     written_says(sheets::plans::write_plan(plan, out))
 }

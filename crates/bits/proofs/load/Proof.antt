@@ -18,7 +18,10 @@ abbrev μ-loop : tie.MeasureT-loop
 
 -- the byte that a turn reads
 byte : (c : tie.After-shared-slice-known Inv-loop μ-loop) → getD (now (c .before .before .before .args .s)) (c .before .before .before .args .first + c .before .before .loop .j) 0 < 256
-byte c = c .shared-slice-known .given (c .before .before .before .args .first + c .before .before .loop .j) .fits
+byte c =
+    let b2 = c .before .before in
+    let b3 = b2 .before in
+    c .shared-slice-known .given (b3 .args .first + b2 .loop .j) .fits
 
 loop-holds : tie.Need-loop-holds Inv-loop μ-loop
 unfolding field

@@ -38,12 +38,13 @@ splice-requires c κs =
 
 store-requires : tie.Need-store-requires
 store-requires c κs =
-    let s = c .before .before .before .before .before in
+    let b2 = c .before .before in
+    let s = b2 .before .before .before in
     let a = s .args in
     let n : ℕ = (a .at % 8 + a .width + 7) / 8 in (
       search needs,
       search needs,
-      rw (c .splice .ensures, c .before .before .load .ensures)
+      rw (c .splice .ensures, b2 .load .ensures)
           (spliced-lt (now (a .out)) (a .at) (a .width) n (a .value) (omega arith) (omega arith) (s .pre .2)),
     )
 

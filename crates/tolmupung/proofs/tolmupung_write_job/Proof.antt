@@ -15,7 +15,7 @@ same-length c = search needs
 returns : tie.Need-returns
 returns c =
     let w = c .before .before .before .write-job .ensures in
-    record { answer = rw (c .written-says .ensures, w .answer); bytes = rw (← w .answer) (w .bytes) }
+    record { told = rw (c .written-says .ensures, w .told); bytes = w .bytes }
 
 pub tolmupung-write-job-spec : {M : Type 1} → statement M
 tolmupung-write-job-spec =

@@ -32,7 +32,9 @@ here-fits c =
 -- and not far
 here-near : (c : tie.In-loop Inv-loop μ-loop)
     → (c .before .before .before .before .before .args .width + c .before .before .before .before .before .args .width2) * c .before .loop .i ≤ 65536 * 64
-here-near c = reach (c .before .before .before .before .before .args .width + c .before .before .before .before .before .args .width2) (c .before .loop .i) (omega arith) (omega arith)
+here-near c =
+    let b5 = c .before .before .before .before .before in
+    reach (b5 .args .width + b5 .args .width2) (c .before .loop .i) (omega arith) (omega arith)
 
 loop-holds : tie.Need-loop-holds Inv-loop μ-loop
 unfolding many putAll
@@ -79,10 +81,11 @@ cast-put-2 c = omega arith
 
 put-requires-2 : tie.Need-put-requires-2 Inv-loop μ-loop
 put-requires-2 c κs =
-    let t = c .before .before .before .before .before .before .before in
+    let b4 = c .before .before .before .before in
+    let t = b4 .before .before .before in
     let s = t .before .before .before .before .before in (
       s .pre .2,
-      rw (c .before .before .before .before .put .kept .0, t .before .loop .inv .1) (omega (arith, here-fits t)),
+      rw (b4 .put .kept .0, t .before .loop .inv .1) (omega (arith, here-fits t)),
       rw (c .cell2 .ensures .0) (s .pre .7 (t .before .loop .i) (omega arith)),
     )
 
@@ -95,12 +98,14 @@ loop-less c = omega arith
 loop-again : tie.Need-loop-again Inv-loop μ-loop
 unfolding putAll
 loop-again c =
-    let k = c .before .before .before .before .before .before .before in
+    let b2 = c .before .before in
+    let b3 = b2 .before in
+    let k = b3 .before .before .before .before in
     let l = k .before .before .before .before .loop in
     let a = k .before .before .before .before .before .before .before .before .args in (
       omega arith,
-      c .before .before .put2 .kept .0 ∙ k .put .kept .0 ∙ l .inv .1,
-      rw (c .before .before .put2 .ensures, c .before .before .before .cell2 .ensures .0, k .put .ensures, k .before .cell .ensures .0, l .inv .2)
+      b2 .put2 .kept .0 ∙ k .put .kept .0 ∙ l .inv .1,
+      rw (b2 .put2 .ensures, b3 .cell2 .ensures .0, k .put .ensures, k .before .cell .ensures .0, l .inv .2)
           (put-many (double (a .width) (now (a .table)) (a .width2) (now (a .table2)) (a .first)) (a .width + a .width2)
           (total-double (a .width) (now (a .table)) (a .width2) (now (a .table2)) (a .first)) (now (a .out)) (a .at) (l .i)),
     )
@@ -110,7 +115,8 @@ same-length c = c .before .loop .inv .1
 
 returns : tie.Need-returns Inv-loop μ-loop
 returns c =
-    let e : c .before .loop .i ≡ c .before .before .before .before .before .args .count = omega arith in
+    let b5 = c .before .before .before .before .before in
+    let e : c .before .loop .i ≡ b5 .args .count = omega arith in
     rw e at (c .before .loop .inv .2)
 
 pub put-doubles-spec : {M : Type 1} → statement M

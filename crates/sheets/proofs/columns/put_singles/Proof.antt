@@ -23,10 +23,16 @@ unfolding many putAll
 loop-holds c = search needs
 
 mul-put : tie.Need-mul-put Inv-loop μ-loop
-mul-put c = omega (arith, reach (c .before .before .before .before .before .args .width) (c .before .before .loop .i) (omega arith) (omega arith))
+mul-put c =
+    let b2 = c .before .before in
+    let b5 = b2 .before .before .before in
+    omega (arith, reach (b5 .args .width) (b2 .loop .i) (omega arith) (omega arith))
 
 add-put : tie.Need-add-put Inv-loop μ-loop
-add-put c = omega (arith, reach (c .before .before .before .before .before .args .width) (c .before .before .loop .i) (omega arith) (omega arith))
+add-put c =
+    let b2 = c .before .before in
+    let b5 = b2 .before .before .before in
+    omega (arith, reach (b5 .args .width) (b2 .loop .i) (omega arith) (omega arith))
 
 cell-requires : tie.Need-cell-requires Inv-loop μ-loop
 cell-requires c κs = search needs
@@ -36,8 +42,9 @@ cast-put c = omega arith
 
 put-requires : tie.Need-put-requires Inv-loop μ-loop
 put-requires c κs =
-    let s = c .before .before .before .before .before .before in
-    let l = c .before .before .before .loop in (
+    let b3 = c .before .before .before in
+    let s = b3 .before .before .before in
+    let l = b3 .loop in (
       s .pre .1,
       rw (l .inv .1) (room (s .args .at) (s .args .width) (s .args .count) (8 * length (now (s .args .out))) (l .i) (s .pre .3) (omega arith)),
       rw (c .cell .ensures .0) (s .pre .4 (l .i) (omega arith)),
@@ -52,11 +59,15 @@ loop-less c = omega arith
 loop-again : tie.Need-loop-again Inv-loop μ-loop
 unfolding putAll
 loop-again c =
-    let a = c .before .before .before .before .before .before .before .before .before .args in
-    let l = c .before .before .before .before .before .before .loop in (
+    let b2 = c .before .before in
+    let b3 = b2 .before in
+    let b6 = b3 .before .before .before in
+    let b9 = b6 .before .before .before in
+    let a = b9 .args in
+    let l = b6 .loop in (
       omega arith,
-      c .before .before .put .kept .0 ∙ l .inv .1,
-      rw (c .before .before .put .ensures, c .before .before .before .cell .ensures .0, l .inv .2)
+      b2 .put .kept .0 ∙ l .inv .1,
+      rw (b2 .put .ensures, b3 .cell .ensures .0, l .inv .2)
           (put-many (single (a .width) (now (a .table))) (a .width) (total-single (a .width) (now (a .table))) (now (a .out)) (a .at) (l .i)),
     )
 

@@ -30,8 +30,12 @@ cell-requires-4 c κs = search needs
 
 returns-2 : tie.Need-returns-2
 returns-2 c =
-    let a = c .before .before .before .before .before .before .before .args in
-    rw (ascends-behind (a .from .now) (a .to .now) (a .i) (c .before .before .before .before .if1 .left), c .cell4 .ensures .0, c .before .cell3 .ensures .0, c .before .before .cell2 .ensures .0, c .before .before .before .cell .ensures .0)
+    let b2 = c .before .before in
+    let b3 = b2 .before in
+    let b4 = b3 .before in
+    let b7 = b4 .before .before .before in
+    let a = b7 .args in
+    rw (ascends-behind (a .from .now) (a .to .now) (a .i) (b4 .if1 .left), c .cell4 .ensures .0, c .before .cell3 .ensures .0, b2 .cell2 .ensures .0, b3 .cell .ensures .0)
 
 pub ascends-spec : {M : Type 1} → statement M
 ascends-spec =

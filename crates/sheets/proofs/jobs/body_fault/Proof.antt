@@ -48,7 +48,11 @@ or-else-requires-2 c κs = search needs
 
 returns : tie.Need-returns
 unfolding bodyFault
-returns c = simp (c .or-else2 .ensures, c .before .runs-out .ensures, c .before .before .or-else .ensures, c .before .before .before .fill-fault .ensures, c .before .before .before .before .tables-fault .ensures)
+returns c =
+    let b2 = c .before .before in
+    let b3 = b2 .before in
+    let b4 = b3 .before in
+    simp (c .or-else2 .ensures, c .before .runs-out .ensures, b2 .or-else .ensures, b3 .fill-fault .ensures, b4 .tables-fault .ensures)
 
 pub body-fault-spec : {M : Type 1} → statement M
 body-fault-spec =

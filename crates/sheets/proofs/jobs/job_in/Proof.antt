@@ -24,8 +24,10 @@ cast-m c = search needs
 
 job-of-requires : tie.Need-job-of-requires
 job-of-requires c κs =
-    let k = head-counts _ (c .before .before .before .before .pre) in
-    rw (c .field3 .ensures .0, c .before .field2 .ensures .0, c .before .before .field .ensures .0) (k .ops, k .links, k .types)
+    let b2 = c .before .before in
+    let b4 = b2 .before .before in
+    let k = head-counts _ (b4 .pre) in
+    rw (c .field3 .ensures .0, c .before .field2 .ensures .0, b2 .field .ensures .0) (k .ops, k .links, k .types)
 
 returns : tie.Need-returns
 returns c = rw (c .job-of .ensures, c .before .field3 .ensures .0, c .before .before .field2 .ensures .0, c .before .before .before .field .ensures .0)

@@ -84,7 +84,16 @@ pair-column-requires-2 c κs = search needs
 
 returns : tie.Need-returns
 unfolding jobOf
-returns c = simp (c .pair-column2 .ensures, c .before .pair-column .ensures, c .before .before .type-column2 .ensures, c .before .before .before .type-column .ensures, c .before .before .before .before .link-column2 .ensures, c .before .before .before .before .before .link-column .ensures, c .before .before .before .before .before .before .op-column .ensures, c .before .before .before .before .before .before .before .field3 .ensures .0, c .before .before .before .before .before .before .before .before .field2 .ensures .0, c .before .before .before .before .before .before .before .before .before .field .ensures .0)
+returns c =
+    let b2 = c .before .before in
+    let b3 = b2 .before in
+    let b4 = b3 .before in
+    let b5 = b4 .before in
+    let b6 = b5 .before in
+    let b7 = b6 .before in
+    let b8 = b7 .before in
+    let b9 = b8 .before in
+    simp (c .pair-column2 .ensures, c .before .pair-column .ensures, b2 .type-column2 .ensures, b3 .type-column .ensures, b4 .link-column2 .ensures, b5 .link-column .ensures, b6 .op-column .ensures, b7 .field3 .ensures .0, b8 .field2 .ensures .0, b9 .field .ensures .0)
 
 pub job-of-spec : {M : Type 1} → statement M
 job-of-spec =

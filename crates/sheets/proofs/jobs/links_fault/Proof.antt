@@ -26,7 +26,9 @@ turn : (c : tie.After-or-else Inv-loop μ-loop)
     → c .or-else .result
     ≡ linkGroup (c .before .before .before .before .before .before .before .args .bytes) (c .before .before .before .before .before .before .before .args .from .now) (c .before .before .before .before .before .before .before .args .to .now) (c .before .before .before .before .before .before .before .args .n) (c .before .before .before .before .loop .i)
 unfolding linkGroup
-turn c = simp (c .or-else .ensures, c .before .link-fault .ensures, c .before .before .runs-out .ensures)
+turn c =
+    let b2 = c .before .before in
+    simp (c .or-else .ensures, c .before .link-fault .ensures, b2 .runs-out .ensures)
 
 loop-holds : tie.Need-loop-holds Inv-loop μ-loop
 unfolding first

@@ -44,7 +44,8 @@ cast-put-doubles c = search needs
 
 put-doubles-requires : tie.Need-put-doubles-requires
 put-doubles-requires c κs =
-    let s = c .before .before .before .before .before .before .before .before .before .before .before .before .before .before in
+    let b6 = c .before .before .before .before .before .before in
+    let s = b6 .before .before .before .before .before .before .before .before in
     let k = none-record (s .args .j) (s .pre .0) in
     let n = k .counts .ops in
     let e = k .counts .links in (
@@ -53,7 +54,7 @@ put-doubles-requires c κs =
       omega arith,
       omega arith,
       omega arith,
-      rw (c .before .before .before .before .before .before .put-singles .kept .0) (omega (arith, s .pre .1)),
+      rw (b6 .put-singles .kept .0) (omega (arith, s .pre .1)),
       from-fit (s .args .j) k,
       to-fit (s .args .j) k,
     )
@@ -63,9 +64,12 @@ same-length c = search needs
 
 returns : tie.Need-returns
 returns c =
-    let a = c .before .before .before .before .before .before .before .before .before .before .before .before .before .before .before .before .before .args in
+    let b2 = c .before .before in
+    let b9 = b2 .before .before .before .before .before .before .before in
+    let b17 = b9 .before .before .before .before .before .before .before .before in
+    let a = b17 .args in
     let j = a .j in
-    rw (c .before .before .put-doubles .ensures, c .before .before .before .before .before .before .before .before .before .put-singles .ensures, put-append (now (a .out)) jobHead (many (single kindBits (j .kinds)) (j .n)) (many (double opBits (j .from) opBits (j .to) 0) (j .e)), total-kinds j)
+    rw (b2 .put-doubles .ensures, b9 .put-singles .ensures, put-append (now (a .out)) jobHead (many (single kindBits (j .kinds)) (j .n)) (many (double opBits (j .from) opBits (j .to) 0) (j .e)), total-kinds j)
 
 pub put-graph-spec : {M : Type 1} → statement M
 put-graph-spec =

@@ -14,16 +14,20 @@ put-counts-requires c κs =
 
 put-times-requires : tie.Need-put-times-requires
 put-times-requires c κs =
-    let s = c .before .before .before .before .before .before in
+    let b3 = c .before .before .before in
+    let s = b3 .before .before .before in
     let k = none-record (s .args .j) (s .pre .0) in
-    (k .steps, k .counts .short, k .wire, rw (c .before .before .before .put-counts .kept .0) (s .pre .1))
+    (k .steps, k .counts .short, k .wire, rw (b3 .put-counts .kept .0) (s .pre .1))
 
 same-length : tie.Need-same-length
 same-length c = search needs
 
 returns : tie.Need-returns
 unfolding putAll
-returns c = rw (c .before .before .put-times .ensures, c .before .before .before .before .before .before .put-counts .ensures)
+returns c =
+    let b2 = c .before .before in
+    let b6 = b2 .before .before .before .before in
+    rw (b2 .put-times .ensures, b6 .put-counts .ensures)
 
 pub put-head-spec : {M : Type 1} → statement M
 put-head-spec = tie.close (tie.spec put-counts-requires put-times-requires same-length returns)

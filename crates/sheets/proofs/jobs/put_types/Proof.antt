@@ -54,10 +54,11 @@ cast-put-2 c = omega arith
 
 put-requires-2 : tie.Need-put-requires-2 Inv-loop μ-loop
 put-requires-2 c κs =
-    let t = c .before .before .before .before .before .before .before in
+    let b4 = c .before .before .before .before in
+    let t = b4 .before .before .before in
     let s = t .before .before .before .before .before .before .before in (
       omega arith,
-      rw (c .before .before .before .before .put .kept .0, t .before .loop .inv .1) (omega arith),
+      rw (b4 .put .kept .0, t .before .loop .inv .1) (omega arith),
       rw (c .cell2 .ensures .0) (s .pre .3 .copiesFit (t .before .loop .y) (omega arith)),
     )
 
@@ -69,14 +70,16 @@ mul-put-doubles c = omega arith
 
 put-doubles-requires : tie.Need-put-doubles-requires Inv-loop μ-loop
 put-doubles-requires c κs =
-    let t = c .before .before .before .before .before .before .before .before .before .before .before in
+    let b3 = c .before .before .before in
+    let b8 = b3 .before .before .before .before .before in
+    let t = b8 .before .before .before in
     let s = t .before .before .before .before .before .before .before in (
       omega arith,
       omega arith,
       omega arith,
       omega arith,
       omega arith,
-      rw (c .before .before .before .put2 .kept .0, c .before .before .before .before .before .before .before .before .put .kept .0, t .before .loop .inv .1) (omega arith),
+      rw (b3 .put2 .kept .0, b8 .put .kept .0, t .before .loop .inv .1) (omega arith),
       (λ i l. s .pre .3 .timesFit (kindCount * t .before .loop .y + i) (omega arith)),
       (λ i l. s .pre .3 .intervalsFit (kindCount * t .before .loop .y + i) (omega arith)),
     )
@@ -89,11 +92,18 @@ loop-less c = omega arith
 
 loop-again : tie.Need-loop-again Inv-loop μ-loop
 loop-again c =
-    let l = c .before .before .before .before .before .before .before .before .before .before .before .before .before .before .before .loop in
-    let a = c .before .before .before .before .before .before .before .before .before .before .before .before .before .before .before .before .before .before .before .before .before .args in (
+    let b2 = c .before .before in
+    let b6 = b2 .before .before .before .before in
+    let b7 = b6 .before in
+    let b11 = b7 .before .before .before .before in
+    let b12 = b11 .before in
+    let b15 = b12 .before .before .before in
+    let b21 = b15 .before .before .before .before .before .before in
+    let l = b15 .loop in
+    let a = b21 .args in (
       omega arith,
-      c .before .before .put-doubles .kept .0 ∙ c .before .before .before .before .before .before .put2 .kept .0 ∙ c .before .before .before .before .before .before .before .before .before .before .before .put .kept .0 ∙ l .inv .1,
-      rw (c .before .before .put-doubles .ensures, c .before .before .before .before .before .before .put2 .ensures, c .before .before .before .before .before .before .before .cell2 .ensures .0, c .before .before .before .before .before .before .before .before .before .before .before .put .ensures, c .before .before .before .before .before .before .before .before .before .before .before .before .cell .ensures .0, l .inv .2)
+      b2 .put-doubles .kept .0 ∙ b6 .put2 .kept .0 ∙ b11 .put .kept .0 ∙ l .inv .1,
+      rw (b2 .put-doubles .ensures, b6 .put2 .ensures, b7 .cell2 .ensures .0, b11 .put .ensures, b12 .cell .ensures .0, l .inv .2)
           (put-type _ (a .at + typeBits * l .y) (now (a .costs)) (now (a .copies)) (now (a .times)) (now (a .intervals)) (l .y)
           ∙ put-many (typeFields (now (a .costs)) (now (a .copies)) (now (a .times)) (now (a .intervals))) typeBits
           (total-type (now (a .costs)) (now (a .copies)) (now (a .times)) (now (a .intervals))) (now (a .out)) (a .at) (l .y)),
@@ -104,7 +114,8 @@ same-length c = c .before .loop .inv .1
 
 returns : tie.Need-returns Inv-loop μ-loop
 returns c =
-    let e : c .before .loop .y ≡ c .before .before .before .before .before .before .before .args .m = omega arith in
+    let b7 = c .before .before .before .before .before .before .before in
+    let e : c .before .loop .y ≡ b7 .args .m = omega arith in
     rw e at (c .before .loop .inv .2)
 
 pub put-types-spec : {M : Type 1} → statement M

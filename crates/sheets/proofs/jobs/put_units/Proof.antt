@@ -34,7 +34,9 @@ slice-aggregate-put-types-3 : tie.Need-slice-aggregate-put-types-3
 slice-aggregate-put-types-3 c = search needs
 
 slice-aggregate-put-types-4 : tie.Need-slice-aggregate-put-types-4
-slice-aggregate-put-types-4 c = search (needs, c .before .before .before .before .before .before .before .before .before .before .before .before .good .1 .0 .1 .1 .1 .1 .1 .1 .1 .1 .1 .1 .1 .1 .1 .1)
+slice-aggregate-put-types-4 c =
+    let b12 = c .before .before .before .before .before .before .before .before .before .before .before .before in
+    search (needs, b12 .good .1 .0 .1 .1 .1 .1 .1 .1 .1 .1 .1 .1 .1 .1 .1 .1)
 
 cast-put-types : tie.Need-cast-put-types
 cast-put-types c = search needs

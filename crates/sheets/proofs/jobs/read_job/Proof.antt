@@ -29,14 +29,21 @@ job-refused-requires-2 c κs = search needs
 returns-2 : tie.Need-returns-2
 unfolding jobFault
 returns-2 c =
-    let z = sym (c .before .before .before .before .before .head-fault .ensures) ∙ c .before .before .before .before .if1 .left in
-    job-refused _ _ _ (c .job-refused2 .ensures) (went _ _ _ z (rw (c .before .before .body-fault .ensures, c .before .before .before .job-in .ensures))) (c .before .if2 .taken)
+    let b2 = c .before .before in
+    let b3 = b2 .before in
+    let b4 = b3 .before in
+    let b5 = b4 .before in
+    let z = sym (b5 .head-fault .ensures) ∙ b4 .if1 .left in
+    job-refused _ _ _ (c .job-refused2 .ensures) (went _ _ _ z (rw (b2 .body-fault .ensures, b3 .job-in .ensures))) (c .before .if2 .taken)
 
 returns-3 : tie.Need-returns-3
 unfolding jobFault
 returns-3 c =
-    let z = sym (c .before .before .before .before .head-fault .ensures) ∙ c .before .before .before .if1 .left in
-    job-read _ _ (orElse-go _ _ z ∙ rw (← c .before .before .job-in .ensures, ← c .before .body-fault .ensures) (c .if2 .left)) (c .before .before .job-in .ensures)
+    let b2 = c .before .before in
+    let b3 = b2 .before in
+    let b4 = b3 .before in
+    let z = sym (b4 .head-fault .ensures) ∙ b3 .if1 .left in
+    job-read _ _ (orElse-go _ _ z ∙ rw (← b2 .job-in .ensures, ← c .before .body-fault .ensures) (c .if2 .left)) (b2 .job-in .ensures)
 
 pub read-job-spec : {M : Type 1} → statement M
 read-job-spec =

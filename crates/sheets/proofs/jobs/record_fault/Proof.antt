@@ -35,9 +35,15 @@ or-else-requires-2 c κs = search needs
 returns : tie.Need-returns
 unfolding recordFault
 returns c =
-    let j = c .before .before .before .before .before .before .before .args .j in
+    let b2 = c .before .before in
+    let b3 = b2 .before in
+    let b4 = b3 .before in
+    let b5 = b4 .before in
+    let b6 = b5 .before in
+    let b7 = b6 .before in
+    let j = b7 .args .j in
     let r = tables-rules j (bytesFor (jobEnd (j .n) (j .e) (j .m))) (omega arith) in
-    simp (c .or-else2 .ensures, c .before .or-else .ensures, c .before .before .tables-fault .ensures, c .before .before .before .counts-fault .ensures, c .before .before .before .before .fault-unless .ensures, c .before .before .before .before .before .job-fits .ensures, c .before .before .before .before .before .before .job-end .ensures, r)
+    simp (c .or-else2 .ensures, c .before .or-else .ensures, b2 .tables-fault .ensures, b3 .counts-fault .ensures, b4 .fault-unless .ensures, b5 .job-fits .ensures, b6 .job-end .ensures, r)
 
 pub record-fault-spec : {M : Type 1} → statement M
 record-fault-spec =

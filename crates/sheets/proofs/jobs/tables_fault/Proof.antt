@@ -32,13 +32,19 @@ links-fault-requires : tie.Need-links-fault-requires
 links-fault-requires c κs = search needs
 
 slice-aggregate-types-fault : tie.Need-slice-aggregate-types-fault
-slice-aggregate-types-fault c = search (needs, c .before .before .before .before .before .before .before .before .before .before .before .good .1 .0 .1 .1 .1 .1 .1 .1 .1 .1 .1 .1 .1 .1 .0)
+slice-aggregate-types-fault c =
+    let b11 = c .before .before .before .before .before .before .before .before .before .before .before in
+    search (needs, b11 .good .1 .0 .1 .1 .1 .1 .1 .1 .1 .1 .1 .1 .1 .1 .0)
 
 slice-aggregate-types-fault-2 : tie.Need-slice-aggregate-types-fault-2
-slice-aggregate-types-fault-2 c = search (needs, c .before .before .before .before .before .before .before .before .before .before .before .before .good .1 .0 .1 .1 .1 .1 .1 .1 .1 .1 .1 .1 .1 .1 .1 .0)
+slice-aggregate-types-fault-2 c =
+    let b12 = c .before .before .before .before .before .before .before .before .before .before .before .before in
+    search (needs, b12 .good .1 .0 .1 .1 .1 .1 .1 .1 .1 .1 .1 .1 .1 .1 .1 .0)
 
 slice-aggregate-types-fault-3 : tie.Need-slice-aggregate-types-fault-3
-slice-aggregate-types-fault-3 c = search (needs, c .before .before .before .before .before .before .before .before .before .before .before .before .before .good .1 .0 .1 .1 .1 .1 .1 .1 .1 .1 .1 .1 .1 .1 .1 .1)
+slice-aggregate-types-fault-3 c =
+    let b13 = c .before .before .before .before .before .before .before .before .before .before .before .before .before in
+    search (needs, b13 .good .1 .0 .1 .1 .1 .1 .1 .1 .1 .1 .1 .1 .1 .1 .1 .1)
 
 types-fault-requires : tie.Need-types-fault-requires
 types-fault-requires c κs = search needs

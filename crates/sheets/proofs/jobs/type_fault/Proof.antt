@@ -24,7 +24,10 @@ fault-unless-requires c κs = search needs
 
 returns : tie.Need-returns
 unfolding typeFault
-returns c = simp (c .fault-unless .ensures, c .before .pairs-sound .ensures, c .before .before .cell .ensures .0, c .before .before .before .before .before .before .pre .2)
+returns c =
+    let b2 = c .before .before in
+    let b6 = b2 .before .before .before .before in
+    simp (c .fault-unless .ensures, c .before .pairs-sound .ensures, b2 .cell .ensures .0, b6 .pre .2)
 
 pub type-fault-spec : {M : Type 1} → statement M
 type-fault-spec =

@@ -23,7 +23,9 @@ turn : (c : tie.After-or-else Inv-loop μ-loop)
     → c .or-else .result
     ≡ typeGroup (c .before .before .before .before .before .before .before .before .args .bytes) (c .before .before .before .before .before .before .before .before .args .at) (c .before .before .before .before .before .before .before .before .args .copies .now) (c .before .before .before .before .before .before .before .before .args .times .now) (c .before .before .before .before .before .before .before .before .args .intervals .now) (c .before .before .before .before .loop .y)
 unfolding typeGroup
-turn c = simp (c .or-else .ensures, c .before .type-fault .ensures, c .before .before .runs-out .ensures)
+turn c =
+    let b2 = c .before .before in
+    simp (c .or-else .ensures, c .before .type-fault .ensures, b2 .runs-out .ensures)
 
 loop-holds : tie.Need-loop-holds Inv-loop μ-loop
 unfolding first sumTo
@@ -67,16 +69,19 @@ loop-less c = omega arith
 
 loop-again : tie.Need-loop-again Inv-loop μ-loop
 loop-again c =
-    let l = c .before .before .before .before .before .before .loop in (
+    let b2 = c .before .before in
+    let b6 = b2 .before .before .before .before in
+    let l = b6 .loop in (
       omega arith,
       omega arith,
       rw (sumTo-more, ← l .inv .2, c .cell .ensures .0),
-      first-more _ _ (l .inv .3) ∙ sym (turn (c .before .before)) ∙ c .before .if1 .left,
+      first-more _ _ (l .inv .3) ∙ sym (turn b2) ∙ c .before .if1 .left,
     )
 
 returns-2 : tie.Need-returns-2 Inv-loop μ-loop
 returns-2 c =
-    let e : c .before .loop .y ≡ c .before .before .before .before .before .args .m = omega arith in
+    let b5 = c .before .before .before .before .before in
+    let e : c .before .loop .y ≡ b5 .args .m = omega arith in
     sym (rw e at (c .before .loop .inv .3))
 
 pub types-fault-spec : {M : Type 1} → statement M

@@ -8,7 +8,7 @@ use lib.ListN.{length}
 use lib.Pow.{pow-pos}
 use Rattle.basics.specs.Tables.{cell}
 use Rattle.bits.specs.Sheet.{bytesFor}
-use Rattle.sheets.proofs.AnswerLaws.{written-fault, written-short, written-wrote, output-refused, output-wrote}
+use Rattle.sheets.proofs.AnswerLaws.{writes-fault, writes-short, writes-sheet}
 use Rattle.sheets.proofs.JobFieldLaws.{put-job}
 use Rattle.sheets.proofs.RecordLaws.{none-record}
 use Rattle.sheets.specs.JobSheet.{jobEnd, jobSheet, writeJob}
@@ -24,7 +24,7 @@ returns : tie.Need-returns
 unfolding writeJob
 returns c =
     let a = c .before .before .before .args in
-    record { answer = written-fault _ _ _ _ _ (c .before .record-fault .ensures) (c .if1 .taken); bytes = output-refused _ _ (jobSheet (a .job)) (now (a .out)) }
+    writes-fault _ _ _ (jobSheet (a .job)) (now (a .out)) _ (c .before .record-fault .ensures) (c .if1 .taken)
 
 job-end-requires : tie.Need-job-end-requires
 job-end-requires c κs = search needs
@@ -35,11 +35,14 @@ add-length c = search needs
 returns-2 : tie.Need-returns-2
 unfolding writeJob
 returns-2 c =
-    let a = c .before .before .before .before .before .args in
+    let b2 = c .before .before in
+    let b3 = b2 .before in
+    let b5 = b3 .before .before in
+    let a = b5 .args in
     let j = a .job in
-    let z = sym (c .before .before .before .record-fault .ensures) ∙ c .before .before .if1 .left in
+    let z = sym (b3 .record-fault .ensures) ∙ b2 .if1 .left in
     let s : length (now (a .out)) < bytesFor (jobEnd (j .n) (j .e) (j .m)) = rw (← c .before .job-end .ensures) (c .if2 .taken) in
-    record { answer = written-short _ _ _ _ z s; bytes = output-refused _ _ (jobSheet j) (now (a .out)) }
+    writes-short _ _ _ (jobSheet j) (now (a .out)) z s
 
 put-head-requires : tie.Need-put-head-requires
 put-head-requires c κs = search needs
@@ -58,8 +61,12 @@ sub-put c = search needs
 
 put-requires : tie.Need-put-requires
 put-requires c κs =
-    let e = c .before .before .before .before .before .before .before .before .before .before .before .before .before .before .job-end .ensures in
-    (omega arith, rw (c .before .before .before .put-units .kept .0, c .before .before .before .before .before .before .before .put-graph .kept .0, c .before .before .before .before .before .before .before .before .before .before .before .put-head .kept .0) (omega arith), pow-pos _)
+    let b3 = c .before .before .before in
+    let b7 = b3 .before .before .before .before in
+    let b11 = b7 .before .before .before .before in
+    let b14 = b11 .before .before .before in
+    let e = b14 .job-end .ensures in
+    (omega arith, rw (b3 .put-units .kept .0, b7 .put-graph .kept .0, b11 .put-head .kept .0) (omega arith), pow-pos _)
 
 cast-t18 : tie.Need-cast-t18
 cast-t18 c = search needs
@@ -70,18 +77,24 @@ same-length c = search needs
 returns-3 : tie.Need-returns-3
 unfolding writeJob
 returns-3 c =
-    let s = c .before .before .before .before .before .before .before .before .before .before .before .before .before .before .before .before .before .before .before .before .before in
+    let b2 = c .before .before in
+    let b6 = b2 .before .before .before .before in
+    let b10 = b6 .before .before .before .before in
+    let b14 = b10 .before .before .before .before in
+    let b17 = b14 .before .before .before in
+    let b18 = b17 .before in
+    let b19 = b18 .before in
+    let b20 = b19 .before in
+    let s = b20 .before in
     let a = s .args in
     let j = a .job in
-    let z = sym (c .before .before .before .before .before .before .before .before .before .before .before .before .before .before .before .before .before .before .before .record-fault .ensures) ∙ c .before .before .before .before .before .before .before .before .before .before .before .before .before .before .before .before .before .before .if1 .left in
-    let e = c .before .before .before .before .before .before .before .before .before .before .before .before .before .before .before .before .before .job-end .ensures in
+    let z = sym (b19 .record-fault .ensures) ∙ b18 .if1 .left in
+    let e = b17 .job-end .ensures in
     let l : bytesFor (jobEnd (j .n) (j .e) (j .m)) ≤ length (now (a .out)) = omega arith in
     let k : (y : ℕ) → Fits w16 (cell (j .costs) y) = λ y. search (needs, s .good .0 .1 .1 .1 .1 .1 .1 .1 .1 .1 .1 .1 .0) in
-    rw e (record {
-      answer = written-wrote _ _ _ _ z l;
-      bytes = output-wrote _ _ _ _ (rw (c .before .before .put .ensures, c .before .before .before .before .before .before .put-units .ensures, c .before .before .before .before .before .before .before .before .before .before .put-graph .ensures, c .before .before .before .before .before .before .before .before .before .before .before .before .before .before .put-head .ensures, e)
-          (put-job j (none-record j z) (λ y. k y .fits) (now (a .out)) (λ i. c .before .before .before .before .before .before .before .before .before .before .before .before .before .before .before .before .before .before .before .before .slice-known .given i .fits) l));
-    })
+    rw e (writes-sheet _ _ _ (jobSheet j) (now (a .out)) _ z l
+    (rw (b2 .put .ensures, b6 .put-units .ensures, b10 .put-graph .ensures, b14 .put-head .ensures, e)
+    (put-job j (none-record j z) (λ y. k y .fits) (now (a .out)) (λ i. b20 .slice-known .given i .fits) l)))
 
 pub write-job-spec : {M : Type 1} → statement M
 write-job-spec =

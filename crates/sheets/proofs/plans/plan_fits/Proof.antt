@@ -48,7 +48,13 @@ blank-requires-3 c κs = search needs
 
 returns : tie.Need-returns
 unfolding planFits
-returns c = simp (c .blank3 .ensures, c .before .before .blank2 .ensures, c .before .before .before .before .blank .ensures, c .before .before .before .before .before .before .within3 .ensures, c .before .before .before .before .before .before .before .before .within2 .ensures, c .before .before .before .before .before .before .before .before .before .before .within .ensures)
+returns c =
+    let b2 = c .before .before in
+    let b4 = b2 .before .before in
+    let b6 = b4 .before .before in
+    let b8 = b6 .before .before in
+    let b10 = b8 .before .before in
+    simp (c .blank3 .ensures, b2 .blank2 .ensures, b4 .blank .ensures, b6 .within3 .ensures, b8 .within2 .ensures, b10 .within .ensures)
 
 pub plan-fits-spec : {M : Type 1} → statement M
 plan-fits-spec =

@@ -33,7 +33,13 @@ or-else-requires-2 c κs = search needs
 
 returns : tie.Need-returns
 unfolding planHeadFault
-returns c = simp (c .or-else2 .ensures, c .before .form-fault .ensures, c .before .before .or-else .ensures, c .before .before .before .sizes-fault .ensures, c .before .before .before .before .runs-out .ensures, c .before .before .before .before .before .field2 .ensures .0, c .before .before .before .before .before .before .field .ensures .0)
+returns c =
+    let b2 = c .before .before in
+    let b3 = b2 .before in
+    let b4 = b3 .before in
+    let b5 = b4 .before in
+    let b6 = b5 .before in
+    simp (c .or-else2 .ensures, c .before .form-fault .ensures, b2 .or-else .ensures, b3 .sizes-fault .ensures, b4 .runs-out .ensures, b5 .field2 .ensures .0, b6 .field .ensures .0)
 
 pub plan-head-fault-spec : {M : Type 1} → statement M
 plan-head-fault-spec =

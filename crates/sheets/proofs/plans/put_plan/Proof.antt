@@ -28,10 +28,11 @@ slice-aggregate-put-singles c = search needs
 
 put-singles-requires : tie.Need-put-singles-requires
 put-singles-requires c κs =
-    let s = c .before .before .before .before .before .before .before .before .before .before .before .before in
+    let b4 = c .before .before .before .before in
+    let s = b4 .before .before .before .before .before .before .before .before in
     let k = none-plan (s .args .p) (s .pre .0) in
     let n = k .insts in
-    (omega arith, omega arith, omega arith, rw (c .before .before .before .before .put-sizes .kept .0) (omega (arith, s .pre .1)), marks-fit (s .args .p) k)
+    (omega arith, omega arith, omega arith, rw (b4 .put-sizes .kept .0) (omega (arith, s .pre .1)), marks-fit (s .args .p) k)
 
 mul-put-doubles : tie.Need-mul-put-doubles
 mul-put-doubles c = search needs
@@ -47,7 +48,9 @@ slice-aggregate-put-doubles-2 c = search needs
 
 put-doubles-requires : tie.Need-put-doubles-requires
 put-doubles-requires c κs =
-    let s = c .before .before .before .before .before .before .before .before .before .before .before .before .before .before .before .before .before .before in
+    let b5 = c .before .before .before .before .before in
+    let b10 = b5 .before .before .before .before .before in
+    let s = b10 .before .before .before .before .before .before .before .before in
     let k = none-plan (s .args .p) (s .pre .0) in
     let n = k .ops in
     let m = k .insts in (
@@ -56,7 +59,7 @@ put-doubles-requires c κs =
       omega arith,
       omega arith,
       omega arith,
-      rw (c .before .before .before .before .before .put-singles .kept .0, c .before .before .before .before .before .before .before .before .before .before .put-sizes .kept .0) (omega (arith, s .pre .1)),
+      rw (b5 .put-singles .kept .0, b10 .put-sizes .kept .0) (omega (arith, s .pre .1)),
       starts-fit (s .args .p) k,
       rows-fit (s .args .p) k,
     )
@@ -67,11 +70,15 @@ same-length c = search needs
 returns : tie.Need-returns
 unfolding putAll
 returns c =
-    let a = c .before .before .before .before .before .before .before .before .before .before .before .before .before .before .before .before .before .before .before .before .before .args in
+    let b2 = c .before .before in
+    let b8 = b2 .before .before .before .before .before .before in
+    let b13 = b8 .before .before .before .before .before in
+    let b21 = b13 .before .before .before .before .before .before .before .before in
+    let a = b21 .args in
     let p = a .p in
     let marks = many (single markBits (p .selection)) (p .k) in
     let rows = many (double stepBits (p .starts) instBits (p .insts) 0) (p .n) in
-    rw (c .before .before .put-doubles .ensures, c .before .before .before .before .before .before .before .before .put-singles .ensures, c .before .before .before .before .before .before .before .before .before .before .before .before .before .put-sizes .ensures, put-append (putAll (now (a .out)) 0 (sizeFields (p .n) (p .k))) planHead marks rows, total-marks p)
+    rw (b2 .put-doubles .ensures, b8 .put-singles .ensures, b13 .put-sizes .ensures, put-append (putAll (now (a .out)) 0 (sizeFields (p .n) (p .k))) planHead marks rows, total-marks p)
 
 pub put-plan-spec : {M : Type 1} → statement M
 put-plan-spec =

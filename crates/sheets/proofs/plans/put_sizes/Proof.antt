@@ -18,7 +18,11 @@ same-length c = search needs
 
 returns : tie.Need-returns
 unfolding putAll
-returns c = rw (c .before .before .put3 .ensures, c .before .before .before .before .before .before .put2 .ensures, c .before .before .before .before .before .before .before .before .before .before .put .ensures)
+returns c =
+    let b2 = c .before .before in
+    let b6 = b2 .before .before .before .before in
+    let b10 = b6 .before .before .before .before in
+    rw (b2 .put3 .ensures, b6 .put2 .ensures, b10 .put .ensures)
 
 pub put-sizes-spec : {M : Type 1} → statement M
 put-sizes-spec =

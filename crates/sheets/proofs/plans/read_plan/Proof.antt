@@ -29,14 +29,21 @@ plan-refused-requires-2 c κs = search needs
 returns-2 : tie.Need-returns-2
 unfolding planFault
 returns-2 c =
-    let z = sym (c .before .before .before .before .before .plan-head-fault .ensures) ∙ c .before .before .before .before .if1 .left in
-    plan-refused _ _ _ (c .plan-refused2 .ensures) (went _ _ _ z (rw (c .before .before .plan-body-fault .ensures, c .before .before .before .plan-in .ensures))) (c .before .if2 .taken)
+    let b2 = c .before .before in
+    let b3 = b2 .before in
+    let b4 = b3 .before in
+    let b5 = b4 .before in
+    let z = sym (b5 .plan-head-fault .ensures) ∙ b4 .if1 .left in
+    plan-refused _ _ _ (c .plan-refused2 .ensures) (went _ _ _ z (rw (b2 .plan-body-fault .ensures, b3 .plan-in .ensures))) (c .before .if2 .taken)
 
 returns-3 : tie.Need-returns-3
 unfolding planFault
 returns-3 c =
-    let z = sym (c .before .before .before .before .plan-head-fault .ensures) ∙ c .before .before .before .if1 .left in
-    plan-read _ _ (orElse-go _ _ z ∙ rw (← c .before .before .plan-in .ensures, ← c .before .plan-body-fault .ensures) (c .if2 .left)) (c .before .before .plan-in .ensures)
+    let b2 = c .before .before in
+    let b3 = b2 .before in
+    let b4 = b3 .before in
+    let z = sym (b4 .plan-head-fault .ensures) ∙ b3 .if1 .left in
+    plan-read _ _ (orElse-go _ _ z ∙ rw (← b2 .plan-in .ensures, ← c .before .plan-body-fault .ensures) (c .if2 .left)) (b2 .plan-in .ensures)
 
 pub read-plan-spec : {M : Type 1} → statement M
 read-plan-spec =

@@ -7,7 +7,7 @@ use denote.Ref.{now}
 use lib.ListN.{length}
 use lib.Pow.{pow-pos}
 use Rattle.bits.specs.Sheet.{bytesFor}
-use Rattle.sheets.proofs.AnswerLaws.{written-fault, written-short, written-wrote, output-refused, output-wrote}
+use Rattle.sheets.proofs.AnswerLaws.{writes-fault, writes-short, writes-sheet}
 use Rattle.sheets.proofs.PlanFieldLaws.{none-plan, put-plan}
 use Rattle.sheets.specs.PlanSheet.{planEnd, planSheet, writePlan}
 use Rattle.sheets.proofs.plans.write_plan.Statement.{statement}
@@ -20,7 +20,7 @@ returns : tie.Need-returns
 unfolding writePlan
 returns c =
     let a = c .before .before .before .args in
-    record { answer = written-fault _ _ _ _ _ (c .before .plan-record-fault .ensures) (c .if1 .taken); bytes = output-refused _ _ (planSheet (a .plan)) (now (a .out)) }
+    writes-fault _ _ _ (planSheet (a .plan)) (now (a .out)) _ (c .before .plan-record-fault .ensures) (c .if1 .taken)
 
 plan-end-requires : tie.Need-plan-end-requires
 plan-end-requires c κs = search needs
@@ -31,11 +31,14 @@ add-length c = search needs
 returns-2 : tie.Need-returns-2
 unfolding writePlan
 returns-2 c =
-    let a = c .before .before .before .before .before .args in
+    let b2 = c .before .before in
+    let b3 = b2 .before in
+    let b5 = b3 .before .before in
+    let a = b5 .args in
     let p = a .plan in
-    let z = sym (c .before .before .before .plan-record-fault .ensures) ∙ c .before .before .if1 .left in
+    let z = sym (b3 .plan-record-fault .ensures) ∙ b2 .if1 .left in
     let s : length (now (a .out)) < bytesFor (planEnd (p .n) (p .k)) = rw (← c .before .plan-end .ensures) (c .if2 .taken) in
-    record { answer = written-short _ _ _ _ z s; bytes = output-refused _ _ (planSheet p) (now (a .out)) }
+    writes-short _ _ _ (planSheet p) (now (a .out)) z s
 
 put-plan-requires : tie.Need-put-plan-requires
 put-plan-requires c κs = search needs
@@ -48,8 +51,10 @@ sub-put c = search needs
 
 put-requires : tie.Need-put-requires
 put-requires c κs =
-    let e = c .before .before .before .before .before .before .plan-end .ensures in
-    (omega arith, rw (c .before .before .before .put-plan .kept .0) (omega arith), pow-pos _)
+    let b3 = c .before .before .before in
+    let b6 = b3 .before .before .before in
+    let e = b6 .plan-end .ensures in
+    (omega arith, rw (b3 .put-plan .kept .0) (omega arith), pow-pos _)
 
 cast-t14 : tie.Need-cast-t14
 cast-t14 c = search needs
@@ -60,15 +65,20 @@ same-length c = search needs
 returns-3 : tie.Need-returns-3
 unfolding writePlan
 returns-3 c =
-    let a = c .before .before .before .before .before .before .before .before .before .before .before .before .before .args in
+    let b2 = c .before .before in
+    let b6 = b2 .before .before .before .before in
+    let b9 = b6 .before .before .before in
+    let b10 = b9 .before in
+    let b11 = b10 .before in
+    let b12 = b11 .before in
+    let b13 = b12 .before in
+    let a = b13 .args in
     let p = a .plan in
-    let z = sym (c .before .before .before .before .before .before .before .before .before .before .before .plan-record-fault .ensures) ∙ c .before .before .before .before .before .before .before .before .before .before .if1 .left in
-    let e = c .before .before .before .before .before .before .before .before .before .plan-end .ensures in
+    let z = sym (b11 .plan-record-fault .ensures) ∙ b10 .if1 .left in
+    let e = b9 .plan-end .ensures in
     let l : bytesFor (planEnd (p .n) (p .k)) ≤ length (now (a .out)) = omega arith in
-    rw e (record {
-      answer = written-wrote _ _ _ _ z l;
-      bytes = output-wrote _ _ _ _ (rw (c .before .before .put .ensures, c .before .before .before .before .before .before .put-plan .ensures, e) (put-plan p (none-plan p z) (now (a .out)) (λ i. c .before .before .before .before .before .before .before .before .before .before .before .before .slice-known .given i .fits) l));
-    })
+    rw e (writes-sheet _ _ _ (planSheet p) (now (a .out)) _ z l
+    (rw (b2 .put .ensures, b6 .put-plan .ensures, e) (put-plan p (none-plan p z) (now (a .out)) (λ i. b12 .slice-known .given i .fits) l)))
 
 pub write-plan-spec : {M : Type 1} → statement M
 write-plan-spec =
