@@ -1,6 +1,6 @@
 -- Laws of `allTo` and `sumTo`: one number more, and what holds of all holds of each.
-use Prim.Native.Nat.{ℕ, zero, suc, _+_, _<_, _≤_}
-use mathlib.Core.Path.{_≡_, refl, sym, _∙_}
+use Prim.Native.Nat.{ℕ, zero, suc, _+_, _<_}
+use mathlib.Core.Path.{_≡_, refl}
 use mathlib.Core.Logic.{_⊎_, inl, inr}
 use mathlib.Core.Bool.{Bool, true, false, _&&_, _||_}
 use native.Mathlib.Decide.{ℕ-discrete}
@@ -46,8 +46,3 @@ pub each-allTo : (test : ℕ → Bool) (n : ℕ) → ((i : ℕ) → i < n → te
 unfolding allTo
 each-allTo test zero h = refl
 each-allTo test (suc n) h = both-and _ _ (each-allTo test n (λ i l. h i (omega arith))) (h n (omega arith))
-
-pub sumTo-cong : (f g : ℕ → ℕ) (n : ℕ) → ((i : ℕ) → i < n → f i ≡ g i) → sumTo f n ≡ sumTo g n
-unfolding sumTo
-sumTo-cong f g zero h = refl
-sumTo-cong f g (suc n) h = rw (sumTo-cong f g n (λ i l. h i (omega arith)), h n (omega arith))

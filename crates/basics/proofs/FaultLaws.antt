@@ -1,6 +1,6 @@
 -- Laws of faults: when one goes on to the next, what no fault means, and the first of many found one by one.
-use Prim.Native.Nat.{ℕ, zero, suc, _+_, _-_, _<_, _≤_}
-use mathlib.Core.Path.{_≡_, refl, sym, ap, _∙_}
+use Prim.Native.Nat.{ℕ, zero, suc, _+_, _-_, _<_}
+use mathlib.Core.Path.{_≡_, refl, sym, _∙_}
 use mathlib.Core.Bool.{Bool, true, false}
 use native.Mathlib.Decide.{ℕ-discrete}
 use native.Mathlib.Nat.{zero-add, suc-add}
@@ -74,11 +74,6 @@ first-none fault (suc n) h i l = go (ℕ-discrete n i) (first-none fault n (orEl
     go : Dec (n ≡ i) → (i < n → fault i ≡ 0) → fault i ≡ 0
     go (yes e) p = rw e at (orElse-none (first fault n) (fault n) h .1)
     go (no m) p = p (omega arith)
-
-pub none-first : (fault : ℕ → ℕ) (n : ℕ) → ((i : ℕ) → i < n → fault i ≡ 0) → first fault n ≡ 0
-unfolding first
-none-first fault zero h = refl
-none-first fault (suc n) h = none-orElse _ _ (none-first fault n (λ i l. h i (omega arith))) (h n (omega arith))
 
 pub first-cong : (f g : ℕ → ℕ) (n : ℕ) → ((i : ℕ) → i < n → f i ≡ g i) → first f n ≡ first g n
 unfolding first

@@ -1,4 +1,5 @@
+pub mod Numbers
+pub mod Answers
 pub mod Counting
 pub mod Tables
 pub mod Faults
-pub mod Numbers

@@ -1,4 +1,4 @@
--- Document 01's numbers: a refusal's, a paper's.
+-- Document 01's numbers of refusals and papers, and the numbers of outcomes for C.
 use Prim.Native.Nat.{ℕ}
 
 -- ---- refusals
@@ -40,3 +40,14 @@ paperPlan = 1
 
 abbrev pub paperRequest : ℕ
 paperRequest = 4
+
+-- ---- outcomes
+
+abbrev pub outcomeRefused : ℕ
+outcomeRefused = 0
+
+abbrev pub outcomeWritten : ℕ
+outcomeWritten = 6
+
+abbrev pub outcomeRead : ℕ
+outcomeRead = 7

@@ -1,6 +1,7 @@
-// Faults joined in their order, and what is asked of a record's tables.
+// The answer of every entry, faults joined in their order, and what is asked of a record's tables.
 ghost use mathlib.Core.Path.{_≡_};
 ghost use Prim.Native.Nat.{_<_};
+ghost use Rattle.basics.specs.Answers.{refusedSays};
 ghost use Rattle.basics.specs.Faults.{_orElse_, faultUnless};
 ghost use Rattle.basics.specs.Tables.{cell as cellOf, within as withinOf, blank as blankOf};
 
@@ -27,6 +28,38 @@ pub const PAPER_JOB: u32 = 0;
 pub const PAPER_PLAN: u32 = 1;
 
 pub const PAPER_REQUEST: u32 = 4;
+
+// What an answer can be.
+pub const REFUSED: u32 = 0;
+
+pub const WRITTEN: u32 = 6;
+
+pub const READ: u32 = 7;
+
+// The answer of every entry. A number that does not belong to the outcome is 0.
+#[repr(C)]
+pub struct Answer {
+    pub outcome: u32,
+    pub number: u32,
+    pub paper: u32,
+    pub cost: u32,
+    pub visits: u32,
+    pub length: u32,
+}
+
+// Refused by a number, with the paper at fault.
+pub fn refused(number: u32, paper: u32) -> Answer
+    ensures { λ r. ⌜ r ≡ refusedSays number paper ⌝ }
+{
+    Answer {
+        outcome: REFUSED,
+        number,
+        paper,
+        cost: 0,
+        visits: 0,
+        length: 0,
+    }
+}
 
 // The fault a, or where there is none the fault b.
 pub fn or_else(a: u32, b: u32) -> u32

@@ -1,7 +1,7 @@
 -- Laws of `bit` and `field`: bounds, a field in two parts, a value with one bit or one byte more, and a spliced one.
 use mathlib.Core.Path.{_≡_, refl, sym, ap, subst, _∙_}
 use Prim.Native.Nat.{ℕ, zero, suc, _+_, _*_, _/_, _%_, _-_, _^_, _≤_, _<_}
-use native.Mathlib.Nat.{mod-lt, pow-suc, add-suc, add-zero, mul-assoc, mul-one, pow-zero, add-mul, add-assoc, lt-of-lt-of-le, div-add-mod', div-one, one-mul, zero-div}
+use native.Mathlib.Nat.{mod-lt, pow-suc, add-suc, add-zero, mul-assoc, mul-one, add-mul, add-assoc, lt-of-lt-of-le, div-add-mod', div-one, one-mul, zero-div}
 use native.Mathlib.Numerals.{add-one}
 use native.Mathlib.Omega.{arith}
 use mathlib.Core.List.{List}

@@ -1,15 +1,15 @@
 -- Laws of `putField`: what it leaves, what it writes, that this says which list it is, and one put after another.
 use mathlib.Core.Path.{_≡_, refl, sym, ap, ap₂, subst, _∙_}
 use Prim.Native.Nat.{ℕ, zero, suc, _+_, _*_, _/_, _%_, _-_, _^_, _≤_, _<_}
-use native.Mathlib.Nat.{add-zero, zero-add, add-assoc, mod-eq-of-lt, mul-one, lt-of-lt-of-le, mod-lt, div-add-mod', div-eq-of-lt}
+use native.Mathlib.Nat.{zero-add, add-assoc, mod-eq-of-lt, mod-lt, div-add-mod', div-eq-of-lt}
 use mathlib.Core.Logic.{_≢_}
 use native.Mathlib.Decide.{ℕ-discrete}
 use native.Mathlib.Omega.{arith}
-use mathlib.Core.List.{List, [], _∷_}
+use mathlib.Core.List.{List}
 use lib.Arith.{digits-lt}
-use lib.Dec.{lit<, lit≤}
+use lib.Dec.{lit<}
 use lib.ListN.{getD, length, set, length-set}
-use lib.Pow.{pow-add, pow-pos, pow-mono, shr-lt, shr-shr, low, high}
+use lib.Pow.{pow-add, shr-lt, shr-shr, low, high}
 use lib.Seq.{getD-set-same, getD-set-other}
 use Rattle.bits.specs.Bits.{bit, field, bytesOf, putField, Bytes}
 use Rattle.bits.proofs.FieldLaws.{field-lt, field-add, field-byte, field-mid}

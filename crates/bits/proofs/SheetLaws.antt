@@ -1,7 +1,7 @@
 -- Laws of sheets. A sheet holds the fields that it is packed of (`holds-pack`), and bytes that hold a sheet's fields, with
 -- zero fill, are the sheet (`pack-holds`). Fields put one after another, with the fill, make it (`put-pack`).
-use mathlib.Core.Path.{_≡_, refl, sym, ap, ap₂, subst, _∙_}
-use Prim.Native.Nat.{ℕ, zero, suc, _+_, _*_, _/_, _%_, _-_, _^_, _≤_, _<_}
+use mathlib.Core.Path.{_≡_, sym, ap, ap₂, subst, _∙_}
+use Prim.Native.Nat.{ℕ, zero, suc, _+_, _*_, _/_, _%_, _^_, _≤_, _<_}
 use native.Mathlib.Nat.{add-zero, zero-add, add-assoc, mul-zero, mul-suc, mod-eq-of-lt}
 use native.Mathlib.Decide.{ℕ-discrete}
 use native.Mathlib.Numerals.{add-one}
@@ -9,7 +9,7 @@ use native.Mathlib.Omega.{arith}
 use mathlib.Core.List.{List, [], _∷_, _++_}
 use lib.Arith.{digits-lt}
 use lib.Dec.{lit<}
-use lib.ListN.{getD, length, drop, length-append, length-drop, List·getD-append}
+use lib.ListN.{length, drop, length-append, length-drop, List·getD-append}
 use lib.Pow.{pow-pos, pow-add, shl-lt}
 use lib.Seq.{getD-append-add, getD-drop}
 use Rattle.bits.specs.Bits.{bit, field, bytesOf, putField, Bytes}
@@ -146,11 +146,6 @@ fit-many f zero h = tt
 fit-many f (suc n) h = fit-append (many f n) (f n) (fit-many f n (λ i l. h i (omega arith))) (h n (omega arith))
 
 -- ---- fields put one after another are one number put
-
-pub length-all : (s : List ℕ) (at : ℕ) (fs : List Field) → length (putAll s at fs) ≡ length s
-unfolding putAll
-length-all s at [] = refl
-length-all s at (f ∷ fs) = length-all (putField s at (f .width) (f .value)) (at + f .width) fs ∙ length-put s at (f .width) (f .value)
 
 put-all : (s : List ℕ) (at : ℕ) (fs : List Field) → Bytes s → Fit fs → at + total fs ≤ 8 * length s
     → putAll s at fs ≡ putField s at (total fs) (number fs)

@@ -1,14 +1,12 @@
 -- Laws of a sheet's groups: bytes and bits, what no fault means, and groups that never run out.
-use Prim.Native.Nat.{ℕ, _+_, _*_, _/_, _≤_, _<_}
-use mathlib.Core.Path.{_≡_, refl, sym, _∙_}
-use mathlib.Core.Bool.{true, false}
+use Prim.Native.Nat.{ℕ, _*_, _≤_, _<_}
+use mathlib.Core.Path.{_≡_, sym, _∙_}
 use mathlib.Core.List.{List}
 use native.Mathlib.Decide.{decLt}
 use native.Mathlib.Omega.{arith}
-use borrow.Author.Tests.{le-leb, lt-leb, leb-true, eqb-true, eq-eqb}
+use borrow.Author.Tests.{le-leb, lt-leb, eqb-true, eq-eqb}
 use lib.Dec.{leb}
 use lib.ListN.{length}
-use Rattle.basics.specs.Faults.{_orElse_, faultUnless}
 use Rattle.basics.proofs.CountLaws.{and-both, both-and}
 use Rattle.basics.proofs.FaultLaws.{unless-none, none-unless, orElse-none, none-orElse}
 use Rattle.bits.specs.Bits.{field}
@@ -29,10 +27,6 @@ bytes-bits bytes end = go (decLt (8 * bytes) end)
 pub whole-none : (bytes end : ℕ) → end ≤ 8 * bytes → runsOut bytes end ≡ 0
 unfolding runsOut
 whole-none bytes end h = none-unless _ 1 (le-leb _ _ h)
-
-pub none-whole : (bytes end : ℕ) → runsOut bytes end ≡ 0 → end ≤ 8 * bytes
-unfolding runsOut
-none-whole bytes end h = leb-true _ _ (unless-none _ 0 h)
 
 module _ (s : List ℕ) where
   pub form-none : (form : ℕ) → field s 0 formBits ≡ form → formBits ≤ 8 * length s → formFault s form ≡ 0

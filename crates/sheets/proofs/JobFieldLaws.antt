@@ -1,17 +1,17 @@
 -- A job's fields: their widths, that they fit where the record has no fault, and that putting them makes the sheet.
-use Prim.Native.Nat.{ℕ, zero, suc, _+_, _*_, _/_, _-_, _^_, _≤_, _<_}
-use mathlib.Core.Path.{_≡_, refl, sym, ap, ap₂, subst, _∙_}
-use mathlib.Core.List.{List, [], _∷_, _++_}
+use Prim.Native.Nat.{ℕ, _+_, _*_, _^_, _≤_, _<_}
+use mathlib.Core.Path.{_≡_, sym, ap, ap₂, subst, _∙_}
+use mathlib.Core.List.{List, _++_}
 use native.Mathlib.Omega.{arith}
 use lib.Dec.{lit<}
 use lib.ListN.{length, drop}
 use Rattle.basics.specs.Tables.{cell}
 use Rattle.bits.specs.Bits.{Bytes, putField}
-use Rattle.bits.specs.Sheet.{Field, total, bytesFor, fill, pack, many, putAll}
+use Rattle.bits.specs.Sheet.{total, bytesFor, fill, pack, many, putAll}
 use Rattle.bits.proofs.SheetLaws.{Fit, total-append, total-many, fit-append, fit-many, put-append, put-pack}
 use Rattle.sheets.specs.Limits.{kindCount, opBits, timeBits, kindBits, costBits, copiesBits, jobHead, linkBits, typeHead, typeBits, pairBits}
 use Rattle.sheets.specs.Columns.{single, double}
-use Rattle.sheets.specs.JobSheet.{linksAt, typesAt, jobEnd, headFields, typeFields, graphFields, unitFields, jobFields, jobSheet, TypesFit}
+use Rattle.sheets.specs.JobSheet.{typesAt, jobEnd, headFields, typeFields, graphFields, unitFields, jobFields, jobSheet, TypesFit}
 use Rattle.sheets.specs.declared.Job.{Job}
 use Rattle.sheets.proofs.ColumnLaws.{total-single, total-double}
 use Rattle.sheets.proofs.RecordLaws.{JobSound}

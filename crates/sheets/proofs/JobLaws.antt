@@ -1,12 +1,11 @@
 -- Laws of a job's rules and of its reader: what no fault means, and the answer from the faults found.
-use Prim.Native.Nat.{ℕ, zero, suc, _+_, _*_, _-_, _≤_, _<_}
-use mathlib.Core.Path.{_≡_, refl, sym, _∙_}
+use Prim.Native.Nat.{ℕ, zero, suc, _-_, _≤_}
+use mathlib.Core.Path.{_≡_, refl}
 use mathlib.Core.Bool.{_&&_, _||_}
 use mathlib.Core.List.{List}
 use native.Mathlib.Omega.{arith}
 use borrow.Author.Tests.{leb-true}
 use lib.Dec.{ltb, eqb}
-use Rattle.basics.specs.Faults.{_orElse_}
 use Rattle.basics.specs.Tables.{cell}
 use Rattle.basics.proofs.CountLaws.{and-both}
 use Rattle.basics.proofs.FaultLaws.{orElse-none, unless-none}

@@ -1,15 +1,14 @@
 -- Reading and writing a job's sheet undo each other: `job-read-written`, `job-written-read`; and so of the entries'
 -- promises: `job-read-output`, `job-write-input`.
-use Prim.Native.Nat.{ℕ, zero, suc, _+_, _*_, _/_, _%_, _^_, _≤_, _<_}
-use mathlib.Core.Path.{_≡_, refl, sym, ap, ap₂, subst, _∙_}
+use Prim.Native.Nat.{ℕ, zero, suc, _+_, _*_, _/_, _%_, _≤_, _<_}
+use mathlib.Core.Path.{_≡_, refl, sym, ap, subst, _∙_}
 use mathlib.Core.Bool.{true}
-use mathlib.Core.List.{List, [], _∷_, _++_}
+use mathlib.Core.List.{List, _++_}
 use native.Mathlib.Omega.{arith}
 use borrow.Author.Tests.{le-leb}
 use lib.ListN.{length, take, drop}
-use Rattle.basics.specs.Faults.{_orElse_}
 use Rattle.basics.specs.Numbers.{paperJob}
-use Rattle.basics.specs.Tables.{cell, cells, within, blank}
+use Rattle.basics.specs.Tables.{cell, cells}
 use Rattle.basics.proofs.CountLaws.{both-and}
 use Rattle.basics.proofs.FaultLaws.{orElse-none, none-orElse, none-unless, orElse-go}
 use Rattle.basics.proofs.TableLaws.{cell-cells, cells-cong, cells-blank, blank-cells, each-within}
@@ -17,17 +16,17 @@ use Rattle.bits.specs.Bits.{Bytes, field}
 use Rattle.bits.specs.Sheet.{Field, total, bytesFor, fill, pack, many}
 use Rattle.bits.proofs.FieldLaws.{field-lt}
 use Rattle.bits.proofs.SheetLaws.{Holds, holds-pack, pack-holds, fill-pack, length-pack, holds-append, append-holds, holds-many, many-holds}
-use Rattle.sheets.specs.Limits.{jobForm, maxOps, maxLinks, maxTypes, pairCells, kindCount, maxKind, maxSteps, maxTime, opBits, stepBits, timeBits, kindBits, costBits, copiesBits, tAt, clockAt, wireAt, jobHead, linkBits, pairBits, typeHead, typeBits}
+use Rattle.sheets.specs.Limits.{jobForm, maxOps, maxLinks, maxTypes, pairCells, kindCount, maxKind, maxSteps, maxTime, opBits, stepBits, timeBits, kindBits, costBits, copiesBits, tAt, wireAt, jobHead, linkBits, pairBits, typeHead, typeBits}
 use Rattle.sheets.specs.Answers.{Writes}
 use Rattle.sheets.specs.Columns.{columnAt, pairAt, single, double}
-use Rattle.sheets.specs.JobRecord.{JobShape, countsFault, graphBlank, unitsBlank, jobFits, rulesFault, recordFault}
-use Rattle.sheets.specs.JobSheet.{linksAt, typesAt, jobEnd, nIn, eIn, mIn, clockIn, jobOf, jobIn, headFault, tablesFault, bodyFault, jobFault, jobRead, readJob, typeFields, graphFields, unitFields, jobFields, jobSheet, writeJob}
+use Rattle.sheets.specs.JobRecord.{JobShape, graphBlank, unitsBlank, jobFits, recordFault}
+use Rattle.sheets.specs.JobSheet.{linksAt, typesAt, jobEnd, nIn, eIn, mIn, clockIn, jobOf, jobIn, headFault, bodyFault, jobFault, jobRead, readJob, typeFields, graphFields, unitFields, jobFields, jobSheet, writeJob}
 use Rattle.sheets.specs.declared.Job.{Job}
 use Rattle.sheets.specs.declared.JobRead.{JobRead}
 use Rattle.sheets.specs.declared.Reading.the-variants.{Read, Refused}
 use Rattle.sheets.specs.declared.Written.{Written}
 use Rattle.sheets.specs.declared.Written.the-variants.{Wrote}
-use Rattle.sheets.proofs.GroupLaws.{whole-none, none-whole, form-none, none-form, fill-none, none-fill}
+use Rattle.sheets.proofs.GroupLaws.{whole-none, form-none, none-form, fill-none, none-fill}
 use Rattle.sheets.proofs.ColumnLaws.{total-double, read-single, read-double, read-double', single-read, double-read}
 use Rattle.sheets.proofs.AnswerLaws.{wrote-sheet, sheet-wrote}
 use Rattle.sheets.proofs.JobLaws.{Counts, head-counts, job-head}

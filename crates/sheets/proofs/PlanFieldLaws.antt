@@ -1,22 +1,21 @@
 -- A plan's fields: their widths, that they fit where the record has no fault, and that putting them makes the sheet.
-use Prim.Native.Nat.{ℕ, zero, suc, _+_, _*_, _/_, _-_, _^_, _≤_, _<_}
-use mathlib.Core.Path.{_≡_, refl, sym, ap, ap₂, subst, _∙_}
+use Prim.Native.Nat.{ℕ, _+_, _*_, _^_, _≤_, _<_}
+use mathlib.Core.Path.{_≡_, sym, subst}
 use mathlib.Core.Bool.{true}
-use mathlib.Core.List.{List, [], _∷_, _++_}
+use mathlib.Core.List.{List, _++_}
 use native.Mathlib.Omega.{arith}
 use lib.Dec.{lit<}
 use lib.ListN.{length, drop}
-use Rattle.basics.specs.Faults.{_orElse_}
 use Rattle.basics.specs.Tables.{cell, blank}
 use Rattle.basics.proofs.CountLaws.{and-both}
 use Rattle.basics.proofs.FaultLaws.{orElse-none, unless-none}
 use Rattle.basics.proofs.TableLaws.{within-each}
 use Rattle.bits.specs.Bits.{Bytes, putField}
-use Rattle.bits.specs.Sheet.{Field, total, bytesFor, fill, pack, many, putAll}
-use Rattle.bits.proofs.SheetLaws.{Fit, total-append, total-many, fit-append, fit-many, put-append, put-pack}
-use Rattle.sheets.specs.Limits.{maxOps, maxInsts, maxMark, maxSteps, maxInst, markBits, stepBits, instBits, rowBits, planHead}
+use Rattle.bits.specs.Sheet.{total, bytesFor, fill, pack, many, putAll}
+use Rattle.bits.proofs.SheetLaws.{Fit, total-append, total-many, fit-append, fit-many, put-pack}
+use Rattle.sheets.specs.Limits.{maxOps, maxInsts, maxMark, maxSteps, maxInst, markBits, stepBits, instBits, rowBits}
 use Rattle.sheets.specs.Columns.{single, double}
-use Rattle.sheets.specs.PlanSheet.{rowsAt, planEnd, planFits, planRecordFault, sizeFields, planFields, planSheet}
+use Rattle.sheets.specs.PlanSheet.{planEnd, planFits, planRecordFault, planFields, planSheet}
 use Rattle.sheets.specs.declared.Plan.{Plan}
 use Rattle.sheets.proofs.ColumnLaws.{total-single, total-double}
 use Rattle.sheets.proofs.PlanLaws.{none-sizes}

@@ -1,9 +1,8 @@
 -- Laws of a plan's rules and of its reader: what no fault means, and the answer from the faults found.
 use Prim.Native.Nat.{ℕ, zero, suc, _≤_}
-use mathlib.Core.Path.{_≡_, refl, sym, _∙_}
+use mathlib.Core.Path.{_≡_, refl}
 use mathlib.Core.List.{List}
 use borrow.Author.Tests.{leb-true}
-use Rattle.basics.specs.Faults.{_orElse_}
 use Rattle.basics.proofs.CountLaws.{and-both}
 use Rattle.basics.proofs.FaultLaws.{orElse-none, unless-none}
 use Rattle.sheets.specs.Limits.{maxOps, maxInsts}

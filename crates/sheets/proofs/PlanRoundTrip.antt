@@ -1,38 +1,33 @@
 -- Reading and writing a plan's sheet undo each other: `plan-read-written`, `plan-written-read`; and so of the entries'
 -- promises: `plan-read-output`, `plan-write-input`.
-use Prim.Native.Nat.{ℕ, zero, suc, _+_, _*_, _^_, _≤_, _<_}
+use Prim.Native.Nat.{ℕ, zero, suc, _+_, _*_, _≤_}
 use mathlib.Core.Path.{_≡_, refl, sym, ap, ap₂, subst, _∙_}
 use mathlib.Core.Bool.{true}
-use mathlib.Core.List.{List, [], _∷_, _++_}
+use mathlib.Core.List.{List, _++_}
 use native.Mathlib.Omega.{arith}
-use borrow.Author.Tests.{le-leb}
-use lib.Dec.{leb}
 use lib.ListN.{length, take, drop}
-use Rattle.basics.specs.Faults.{_orElse_}
 use Rattle.basics.specs.Numbers.{paperPlan}
-use Rattle.basics.specs.Tables.{cell, cells, within, blank}
+use Rattle.basics.specs.Tables.{cells, within}
 use Rattle.basics.proofs.CountLaws.{both-and}
 use Rattle.basics.proofs.FaultLaws.{orElse-none, none-orElse, none-unless, orElse-go}
 use Rattle.basics.proofs.TableLaws.{cell-cells, blank-cells, each-within}
 use Rattle.bits.specs.Bits.{Bytes, field}
-use Rattle.bits.specs.Sheet.{Field, total, bytesFor, fill, pack, many}
+use Rattle.bits.specs.Sheet.{Field, bytesFor, fill, pack, many}
 use Rattle.bits.proofs.FieldLaws.{field-lt}
 use Rattle.bits.proofs.SheetLaws.{Holds, holds-pack, pack-holds, fill-pack, length-pack, holds-append, append-holds}
-use Rattle.sheets.specs.Limits.{planForm, maxOps, maxInsts, maxMark, maxSteps, maxInst, formBits, opBits, instCountBits, markBits, stepBits, instBits, rowBits, nAt, kAt, planHead}
+use Rattle.sheets.specs.Limits.{planForm, maxOps, maxInsts, maxMark, maxSteps, maxInst, markBits, stepBits, instBits, rowBits, planHead}
 use Rattle.sheets.specs.Answers.{Writes}
-use Rattle.sheets.specs.Groups.{runsOut, fillFault}
 use Rattle.sheets.specs.Columns.{columnAt, single, double}
 use Rattle.sheets.specs.PlanSheet.{PlanShape, rowsAt, planEnd, opsIn, instsIn, planOf, planIn, sizesFault, planHeadFault, planBodyFault, planFault, planRead, readPlan, planFits, planRecordFault, planFields, planSheet, writePlan}
 use Rattle.sheets.specs.declared.Plan.{Plan}
 use Rattle.sheets.specs.declared.PlanRead.{PlanRead}
-use Rattle.sheets.specs.declared.Reading.{Reading}
 use Rattle.sheets.specs.declared.Reading.the-variants.{Read, Refused}
 use Rattle.sheets.specs.declared.Written.{Written}
 use Rattle.sheets.specs.declared.Written.the-variants.{Wrote}
-use Rattle.sheets.proofs.GroupLaws.{whole-none, none-whole, form-none, none-form, fill-none, none-fill}
+use Rattle.sheets.proofs.GroupLaws.{whole-none, form-none, none-form, fill-none, none-fill}
 use Rattle.sheets.proofs.ColumnLaws.{read-single, read-double, read-double', single-read, double-read}
 use Rattle.sheets.proofs.AnswerLaws.{wrote-sheet, sheet-wrote}
-use Rattle.sheets.proofs.PlanLaws.{none-sizes, head-sizes}
+use Rattle.sheets.proofs.PlanLaws.{head-sizes}
 use Rattle.sheets.proofs.PlanFieldLaws.{PlanSound, none-plan, total-marks, total-plan, fit-plan}
 
 sheet-length : (p : Plan) → length (planSheet p) ≡ bytesFor (planEnd (p .n) (p .k))

@@ -1,22 +1,20 @@
 -- Laws of a job's record: what one without fault has (`JobSound`), and that its groups never run out of its own sheet.
-use Prim.Native.Nat.{ℕ, zero, suc, _+_, _*_, _/_, _%_, _≤_, _<_, _^_}
-use mathlib.Core.Path.{_≡_, refl, sym, ap₂, _∙_}
+use Prim.Native.Nat.{ℕ, _+_, _*_, _/_, _%_, _≤_, _<_}
+use mathlib.Core.Path.{_≡_, ap₂}
 use mathlib.Core.Logic.{⊎-elim}
-use mathlib.Core.Bool.{Bool, true, false, _&&_, _||_}
+use mathlib.Core.Bool.{Bool, true, _&&_}
 use mathlib.Core.List.{List}
 use native.Mathlib.Omega.{arith}
 use borrow.Author.Tests.{leb-true, ltb-true, eqb-true}
 use lib.Dec.{leb, eqb}
 use Rattle.basics.specs.Counting.{allTo, sumTo}
 use Rattle.basics.specs.Faults.{_orElse_, first}
-use Rattle.basics.specs.Tables.{cell, within, blank}
+use Rattle.basics.specs.Tables.{cell, blank}
 use Rattle.basics.proofs.CountLaws.{and-both, either, allTo-each}
 use Rattle.basics.proofs.FaultLaws.{orElse-none, orElse-go, unless-none, first-none, first-cong}
 use Rattle.basics.proofs.TableLaws.{within-each}
-use Rattle.bits.specs.Sheet.{bytesFor}
 use Rattle.sheets.specs.Limits.{maxCopies, maxInsts, kindCount, maxKind, maxSteps, maxTime, linkBits, typeBits}
-use Rattle.sheets.specs.Groups.{runsOut}
-use Rattle.sheets.specs.JobRecord.{countsFault, ascends, linkFault, pairOk, pairSound, copiesOk, typeFault, graphBlank, unitsBlank, jobFits, rulesFault, recordFault}
+use Rattle.sheets.specs.JobRecord.{linkFault, pairOk, pairSound, copiesOk, typeFault, graphBlank, unitsBlank, jobFits, rulesFault, recordFault}
 use Rattle.sheets.specs.JobSheet.{linksAt, typesAt, jobEnd, linkGroup, typeGroup, tablesFault}
 use Rattle.sheets.specs.declared.Job.{Job}
 use Rattle.sheets.proofs.GroupLaws.{whole-none}

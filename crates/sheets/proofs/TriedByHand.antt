@@ -1,23 +1,21 @@
 -- Sheets tried by hand, by computation: document 01's empty job (case 12), its job P and the plan of case 1, each read
 -- from its bytes and written back to them.
-use Prim.Native.Nat.{ℕ, zero, suc, _+_, _*_}
+use Prim.Native.Nat.{ℕ}
 use mathlib.Core.Path.{_≡_, refl}
 use mathlib.Core.List.{List, [], _∷_, _++_}
 use lib.ListN.{replicate}
 use Rattle.basics.specs.Counting.{allTo, sumTo}
 use Rattle.basics.specs.Faults.{_orElse_, faultUnless, first}
-use Rattle.basics.specs.Tables.{filled, within, blank}
+use Rattle.basics.specs.Tables.{filled}
 use Rattle.bits.specs.Bits.{bit, field, bytesOf}
 use Rattle.bits.specs.Sheet.{total, number, pack, many}
-use Rattle.sheets.specs.Answers.{ifRoom, written}
 use Rattle.sheets.specs.Groups.{runsOut, formFault, fillFault}
-use Rattle.sheets.specs.JobRecord.{countsFault, ascends, linkFault, pairSound, typeFault, jobFits, rulesFault, recordFault}
-use Rattle.sheets.specs.JobSheet.{jobOf, headFault, linkGroup, typeGroup, tablesFault, bodyFault, jobFault, jobRead, readJob, typeFields, jobSheet, writeJob}
-use Rattle.sheets.specs.PlanSheet.{planOf, sizesFault, planHeadFault, planBodyFault, planFault, planRead, readPlan, planFits, planRecordFault, planSheet, writePlan}
+use Rattle.sheets.specs.JobRecord.{countsFault, ascends, linkFault, pairSound, typeFault}
+use Rattle.sheets.specs.JobSheet.{jobOf, headFault, linkGroup, typeGroup, tablesFault, bodyFault, jobFault, jobRead, readJob, typeFields, jobSheet}
+use Rattle.sheets.specs.PlanSheet.{planOf, sizesFault, planHeadFault, planBodyFault, planFault, planRead, readPlan, planSheet}
 use Rattle.sheets.specs.declared.Job.{Job}
 use Rattle.sheets.specs.declared.Plan.{Plan}
 use Rattle.sheets.specs.declared.Reading.the-variants.{Read}
-use Rattle.sheets.specs.declared.Written.the-variants.{Wrote}
 
 -- ---- no operations, no types, T 0, clock 1
 

@@ -1,15 +1,30 @@
--- What each case of an answer stands for. A fault's number and its paper give the case; 0 is no fault.
+-- The answers of readers and writers: what each case says in numbers (`readingSays`, `writtenSays`), which case a writer
+-- gives (`written`), and its promise (`Writes`).
 use Prim.Native.Nat.{ℕ, zero, suc}
 use mathlib.Core.Path.{_≡_}
 use mathlib.Core.Bool.{Bool, true, false}
 use mathlib.Core.List.{List, _++_}
 use lib.Dec.{leb}
 use lib.ListN.{drop}
-use Rattle.basics.specs.Numbers.{outputShort, paperRequest}
+use Rattle.basics.specs.Answers.{refusedSays}
+use Rattle.basics.specs.Numbers.{outputShort, paperRequest, outcomeRead, outcomeWritten}
+use Rattle.basics.specs.declared.Answer.{Answer}
+use Rattle.sheets.specs.declared.Reading.{Reading}
+use Rattle.sheets.specs.declared.Reading.the-variants.{Read, Refused as Unread}
 use Rattle.sheets.specs.declared.Written.{Written}
 use Rattle.sheets.specs.declared.Written.the-variants.{Wrote, Refused}
 
--- ---- a writer's answer: written with the length, or refused with number and paper
+-- ---- each case in its numbers
+
+abbrev pub readingSays : Reading → Answer
+readingSays Read = record { outcome = outcomeRead; number = 0; paper = 0; cost = 0; visits = 0; length = 0 }
+readingSays (Unread number paper) = refusedSays number paper
+
+abbrev pub writtenSays : Written → Answer
+writtenSays (Wrote size) = record { outcome = outcomeWritten; number = 0; paper = 0; cost = 0; visits = 0; length = size }
+writtenSays (Refused number paper) = refusedSays number paper
+
+-- ---- the case that a writer gives: a fault's number is its first, 0 being none
 
 unfoldable pub ifRoom : Bool → ℕ → Written
 ifRoom true size = Wrote size

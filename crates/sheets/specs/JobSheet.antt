@@ -1,7 +1,6 @@
 -- The job sheet: `jobIn` is the record that its bytes spell, `jobFault` its first fault, `readJob` the reader's answer;
 -- `jobSheet` is a record's sheet, `writeJob` the writer's answer.
 use Prim.Native.Nat.{ℕ, zero, suc, _+_, _*_, _^_, _<_}
-use mathlib.Core.Path.{_≡_}
 use mathlib.Core.List.{List, [], _∷_, _++_}
 use lib.ListN.{length, replicate}
 use Rattle.basics.specs.Faults.{_orElse_, first}

@@ -1,11 +1,11 @@
 // The job sheet, read and written.
 ghost use mathlib.Core.Path.{_≡_};
-ghost use Prim.Native.Nat.{ℕ, _+_, _*_, _^_, _≤_, _<_};
+ghost use Prim.Native.Nat.{_+_, _*_, _^_, _≤_, _<_};
 ghost use lib.ListN.{length};
 ghost use Rattle.basics.specs.Counting.{allTo, sumTo};
 ghost use Rattle.basics.specs.Faults.{first};
 ghost use Rattle.basics.specs.Tables.{cell as cellOf};
-ghost use Rattle.bits.specs.Sheet.{many, putAll, bytesFor};
+ghost use Rattle.bits.specs.Sheet.{many, putAll};
 ghost use Rattle.sheets.specs.Limits.{kindCount, maxOps, maxLinks, maxTypes, maxSteps, maxTime, tAt, jobHead, typeBits};
 ghost use Rattle.sheets.specs.Answers.{Writes};
 ghost use Rattle.sheets.specs.JobRecord.{countsFault, ascends as ascendsAt, linkFault, pairOk, pairSound, typeFault, graphBlank, unitsBlank, jobFits, recordFault};

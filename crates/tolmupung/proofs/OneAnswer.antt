@@ -3,9 +3,9 @@
 use Prim.Native.Nat.{ℕ}
 use mathlib.Core.Path.{_≡_, sym, _∙_}
 use mathlib.Core.List.{List}
+use Rattle.basics.specs.declared.Answer.{Answer}
 use Rattle.sheets.specs.declared.Written.{Written}
 use Rattle.tolmupung.specs.Promises.{Writes}
-use Rattle.tolmupung.specs.declared.Answer.{Answer}
 
 pub one-output : (answer : Written) (sheet before : List ℕ) (r r' : Answer) (after after' : List ℕ)
     → Writes answer sheet before r after → Writes answer sheet before r' after' → (r ≡ r') × (after ≡ after')

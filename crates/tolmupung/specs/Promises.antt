@@ -2,12 +2,11 @@
 use Prim.Native.Nat.{ℕ}
 use mathlib.Core.Path.{_≡_}
 use mathlib.Core.List.{List}
-use Rattle.sheets.specs.Answers.{output}
+use Rattle.basics.specs.declared.Answer.{Answer}
+use Rattle.sheets.specs.Answers.{readingSays, writtenSays, output}
 use Rattle.sheets.specs.declared.JobRead.{JobRead as JobReading}
 use Rattle.sheets.specs.declared.PlanRead.{PlanRead as PlanReading}
 use Rattle.sheets.specs.declared.Written.{Written}
-use Rattle.tolmupung.specs.Answers.{readingSays, writtenSays}
-use Rattle.tolmupung.specs.declared.Answer.{Answer}
 use Rattle.tolmupung.specs.declared.JobRead.{JobRead}
 use Rattle.tolmupung.specs.declared.PlanRead.{PlanRead}
 

@@ -3,30 +3,12 @@ ghost use mathlib.Core.Path.{_≡_};
 ghost use lib.ListN.{length};
 ghost use Rattle.sheets.specs.JobSheet.{readJob, jobSheet, writeJob};
 ghost use Rattle.sheets.specs.PlanSheet.{readPlan, planSheet, writePlan};
-ghost use Rattle.tolmupung.specs.Answers.{readingSays, writtenSays};
 ghost use Rattle.tolmupung.specs.Promises.{jobSays, planSays, Writes};
+use basics::Answer;
 use sheets::Job;
 use sheets::Plan;
-use sheets::Reading;
-use sheets::Written;
-
-// What an answer can be.
-pub const REFUSED: u32 = 0;
-
-pub const WRITTEN: u32 = 6;
-
-pub const READ: u32 = 7;
-
-// The answer of every entry. A number that does not belong to the outcome is 0.
-#[repr(C)]
-pub struct Answer {
-    pub outcome: u32,
-    pub number: u32,
-    pub paper: u32,
-    pub cost: u32,
-    pub visits: u32,
-    pub length: u32,
-}
+use sheets::answers::reading_says;
+use sheets::answers::written_says;
 
 #[repr(C)]
 pub struct JobRead {
@@ -38,38 +20,6 @@ pub struct JobRead {
 pub struct PlanRead {
     pub answer: Answer,
     pub plan: Plan,
-}
-
-// An answer with neither cost nor visits.
-fn says(outcome: u32, number: u32, paper: u32, length: u32) -> Answer
-    ensures { λ r. ⌜ r ≡ record { outcome = outcome; number = number; paper = paper; cost = 0; visits = 0; length = length } ⌝ }
-{
-    Answer {
-        outcome,
-        number,
-        paper,
-        cost: 0,
-        visits: 0,
-        length,
-    }
-}
-
-fn reading_says(answer: Reading) -> Answer
-    ensures { λ r. ⌜ r ≡ readingSays answer ⌝ }
-{
-    let Reading::Refused { number, paper } = answer else {
-        return says(READ, 0, 0, 0);
-    };
-    says(REFUSED, number, paper, 0)
-}
-
-fn written_says(answer: Written) -> Answer
-    ensures { λ r. ⌜ r ≡ writtenSays answer ⌝ }
-{
-    match answer {
-        Written::Wrote { length } => says(WRITTEN, 0, 0, length),
-        Written::Refused { number, paper } => says(REFUSED, number, paper, 0),
-    }
 }
 
 #[no_mangle]

@@ -1,9 +1,8 @@
 -- The loop has tested the cells passed.
-use Prim.Native.Nat.{_+_, _≤_, _-_}
-use mathlib.Core.Path.{_≡_, ap, _∙_}
+use Prim.Native.Nat.{_≤_, _-_}
+use mathlib.Core.Path.{_≡_}
 use borrow.Author.Needs.{needs}
 use native.Mathlib.Omega.{arith}
-use lib.ListN.{length}
 use Rattle.basics.specs.Counting.{allTo}
 use Rattle.basics.specs.Tables.{cellWithin, within}
 use Rattle.basics.proofs.CountLaws.{allTo-more}

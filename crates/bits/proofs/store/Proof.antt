@@ -1,7 +1,7 @@
 -- The loop has put the bytes passed.
 use native.Mathlib.Nat.{div-one}
-use Prim.Native.Nat.{ℕ, _≤_, _<_, _+_, _*_, _/_, _-_, _^_}
-use mathlib.Core.Path.{_≡_, refl, ap, _∙_}
+use Prim.Native.Nat.{_≤_, _*_, _/_, _-_, _^_}
+use mathlib.Core.Path.{_≡_, refl, _∙_}
 use native.Mathlib.Omega.{arith}
 use denote.Ref.{now}
 use lib.ListN.{length, length-set}

@@ -1,12 +1,12 @@
 -- The loop has filled the cells passed.
-use Prim.Native.Nat.{ℕ, _≤_, _-_}
-use mathlib.Core.Path.{_≡_, ap, _∙_}
+use Prim.Native.Nat.{_≤_, _-_}
+use mathlib.Core.Path.{_≡_}
 use native.Mathlib.Nat.{lt-of-lt-of-le}
 use native.Mathlib.Omega.{arith}
 use borrow.Author.Needs.{needs}
 use lib.ListN.{length, length-set}
 use lib.Pow.{pow-mono}
-use Rattle.basics.proofs.TableLaws.{filled-more, length-filled}
+use Rattle.basics.proofs.TableLaws.{filled-more}
 use Rattle.basics.specs.Tables.{filled}
 use Rattle.sheets.proofs.ColumnLaws.{reach}
 use Rattle.sheets.specs.Columns.{columnAt}

@@ -3,8 +3,7 @@ use Prim.Native.Nat.{_≤_, _-_}
 use mathlib.Core.Path.{_≡_}
 use native.Mathlib.Omega.{arith}
 use borrow.Author.Needs.{needs}
-use lib.ListN.{length}
-use Rattle.basics.proofs.TableLaws.{filled-more, length-cells}
+use Rattle.basics.proofs.TableLaws.{filled-more}
 use Rattle.basics.specs.Tables.{filled, cells}
 use Rattle.sheets.specs.Columns.{pairAt}
 use Rattle.sheets.proofs.columns.pair_column.Statement.{statement}

@@ -1,5 +1,4 @@
 -- The first link is behind none; another is compared with the one before it.
-use mathlib.Core.Path.{sym}
 use borrow.Author.Needs.{needs}
 use Rattle.sheets.proofs.JobLaws.{ascends-behind}
 use Rattle.sheets.specs.JobRecord.{ascends}

@@ -1,12 +1,9 @@
 -- Kinds, then links, each behind the one before.
-use Prim.Native.Nat.{_+_}
-use mathlib.Core.Path.{_≡_, sym, ap, _∙_}
 use native.Mathlib.Omega.{arith}
 use borrow.Author.Needs.{needs}
 use denote.Ref.{now}
-use lib.ListN.{length}
 use Rattle.bits.proofs.SheetLaws.{put-append}
-use Rattle.bits.specs.Sheet.{many, putAll}
+use Rattle.bits.specs.Sheet.{many}
 use Rattle.sheets.proofs.JobFieldLaws.{total-kinds, kinds-fit, from-fit, to-fit}
 use Rattle.sheets.proofs.RecordLaws.{none-record}
 use Rattle.sheets.specs.Columns.{single, double}
