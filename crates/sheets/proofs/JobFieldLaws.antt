@@ -11,7 +11,7 @@ use Rattle.bits.specs.Sheet.{total, bytesFor, fill, pack, many, putAll}
 use Rattle.bits.proofs.SheetLaws.{Fit, total-append, total-many, fit-append, fit-many, put-append, put-pack}
 use Rattle.sheets.specs.Limits.{kindCount, opBits, timeBits, kindBits, costBits, copiesBits, jobHead, linkBits, typeHead, typeBits, pairBits}
 use Rattle.sheets.specs.Columns.{single, double}
-use Rattle.sheets.specs.JobSheet.{typesAt, jobEnd, headFields, typeFields, graphFields, unitFields, jobFields, jobSheet, TypesFit}
+use Rattle.sheets.specs.JobSheet.{typesAt, jobEnd, jobHeadFields, typeFields, graphFields, unitFields, jobFields, jobSheet, TypesFit}
 use Rattle.sheets.specs.declared.Job.{Job}
 use Rattle.sheets.proofs.ColumnLaws.{total-single, total-double}
 use Rattle.sheets.proofs.RecordLaws.{JobSound}
@@ -125,17 +125,17 @@ module _ (j : Job) (h : JobSound j) (k : (y : ℕ) → cell (j .costs) y < 2 ^ c
 
   -- head, graph and units, one behind the other, and the fill
   pub put-job : (out : List ℕ) → Bytes out → bytesFor (jobEnd (j .n) (j .e) (j .m)) ≤ length out
-      → putField (putAll (putAll (putAll out 0 (headFields j)) jobHead (graphFields j)) (typesAt (j .n) (j .e)) (unitFields j))
+      → putField (putAll (putAll (putAll out 0 (jobHeadFields j)) jobHead (graphFields j)) (typesAt (j .n) (j .e)) (unitFields j))
       (jobEnd (j .n) (j .e) (j .m)) (fill (jobEnd (j .n) (j .e) (j .m))) 0
       ≡ jobSheet j ++ drop (bytesFor (jobEnd (j .n) (j .e) (j .m))) out
   unfolding jobSheet total
   put-job out hs l =
-      let u : List ℕ = putAll out 0 (headFields j) in
+      let u : List ℕ = putAll out 0 (jobHeadFields j) in
       let g : List ℕ = putAll u jobHead (graphFields j) in
       let at : jobHead + total (graphFields j) ≡ typesAt (j .n) (j .e) = omega (arith, total-graph j) in
       let e : putAll g (typesAt (j .n) (j .e)) (unitFields j) ≡ putAll out 0 (jobFields j) =
       ap (λ (k : ℕ). putAll g k (unitFields j)) (sym at) ∙ sym (put-append u jobHead (graphFields j) (unitFields j))
-      ∙ sym (put-append out 0 (headFields j) (graphFields j ++ unitFields j)) in
+      ∙ sym (put-append out 0 (jobHeadFields j) (graphFields j ++ unitFields j)) in
       ap (λ (t : List ℕ). putField t (jobEnd (j .n) (j .e) (j .m)) (fill (jobEnd (j .n) (j .e) (j .m))) 0) e
       ∙ subst (λ (k : ℕ). putField (putAll out 0 (jobFields j)) k (fill k) 0 ≡ pack (jobFields j) ++ drop (bytesFor k) out) (total-job j)
       (put-pack out (jobFields j) hs fit-job (subst (λ (k : ℕ). bytesFor k ≤ length out) (sym (total-job j)) l))

@@ -10,8 +10,8 @@ use Rattle.basics.specs.Tables.{cell}
 use Rattle.basics.proofs.CountLaws.{and-both}
 use Rattle.basics.proofs.FaultLaws.{orElse-none, unless-none}
 use Rattle.sheets.specs.Limits.{maxOps, maxLinks, maxTypes, maxTime}
-use Rattle.sheets.specs.JobRecord.{countsFault, ascends}
-use Rattle.sheets.specs.JobSheet.{nIn, eIn, mIn, clockIn, jobIn, headFault, jobFault, jobRefused, jobRead, readJob}
+use Rattle.sheets.specs.JobRecord.{jobCountsFault, ascends}
+use Rattle.sheets.specs.JobSheet.{nIn, eIn, mIn, clockIn, jobIn, jobHeadFault, jobFault, jobRefused, jobAnswer, readJob}
 use Rattle.sheets.specs.declared.Job.{Job}
 use Rattle.sheets.specs.declared.JobRead.{JobRead}
 use Rattle.sheets.specs.declared.Reading.the-variants.{Read}
@@ -33,8 +33,8 @@ pub record Counts (n e m clock : ℕ) : Type 0 where
   pub some : 1 ≤ clock
   pub short : clock ≤ maxTime
 
-pub none-counts : (n e m clock : ℕ) → countsFault n e m clock ≡ 0 → Counts n e m clock
-unfolding countsFault
+pub none-counts : (n e m clock : ℕ) → jobCountsFault n e m clock ≡ 0 → Counts n e m clock
+unfolding jobCountsFault
 none-counts n e m clock h =
     let a = and-both _ _ (unless-none _ 2 h) in
     let b = and-both _ _ (a .0) in
@@ -42,21 +42,21 @@ none-counts n e m clock h =
     let f = and-both _ _ (d .0) in
     record { ops = leb-true _ _ (f .0); links = leb-true _ _ (f .1); types = leb-true _ _ (d .1); some = leb-true _ _ (b .1); short = leb-true _ _ (a .1) }
 
-pub head-counts : (s : List ℕ) → headFault s ≡ 0 → Counts (nIn s) (eIn s) (mIn s) (clockIn s)
-unfolding headFault
+pub head-counts : (s : List ℕ) → jobHeadFault s ≡ 0 → Counts (nIn s) (eIn s) (mIn s) (clockIn s)
+unfolding jobHeadFault
 head-counts s h = none-counts _ _ _ _ (orElse-none _ _ (orElse-none _ _ h .1) .1)
 
 -- ---- the reader's answer
 
-pub job-head : (s : List ℕ) → jobFault s ≡ 0 → headFault s ≡ 0
+pub job-head : (s : List ℕ) → jobFault s ≡ 0 → jobHeadFault s ≡ 0
 unfolding jobFault
 job-head s h = orElse-none _ _ h .0
 
 pub job-refused : (s : List ℕ) (k : ℕ) (r : JobRead) → r ≡ jobRefused k → k ≡ jobFault s → (k ≡ 0 → ⊥) → r ≡ readJob s
-unfolding readJob jobRead
+unfolding readJob jobAnswer
 job-refused s zero r w e q = absurd (q refl)
 job-refused s (suc k) r w e q = rw (← e) w
 
 pub job-read : (s : List ℕ) (j : Job) → jobFault s ≡ 0 → j ≡ jobIn s → _≡_ {A = JobRead} (record { answer = Read; job = j }) (readJob s)
-unfolding readJob jobRead
+unfolding readJob jobAnswer
 job-read s j e w = rw (e, w)

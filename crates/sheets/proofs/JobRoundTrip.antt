@@ -19,8 +19,8 @@ use Rattle.bits.proofs.SheetLaws.{Holds, holds-pack, pack-holds, fill-pack, len
 use Rattle.sheets.specs.Limits.{jobForm, maxOps, maxLinks, maxTypes, pairCells, kindCount, maxKind, maxSteps, maxTime, opBits, stepBits, timeBits, kindBits, costBits, copiesBits, tAt, wireAt, jobHead, linkBits, pairBits, typeHead, typeBits}
 use Rattle.sheets.specs.Answers.{Writes}
 use Rattle.sheets.specs.Columns.{columnAt, pairAt, single, double}
-use Rattle.sheets.specs.JobRecord.{JobShape, graphBlank, unitsBlank, jobFits, recordFault}
-use Rattle.sheets.specs.JobSheet.{linksAt, typesAt, jobEnd, nIn, eIn, mIn, clockIn, jobOf, jobIn, headFault, bodyFault, jobFault, jobRead, readJob, typeFields, graphFields, unitFields, jobFields, jobSheet, writeJob}
+use Rattle.sheets.specs.JobRecord.{JobShape, graphBlank, unitsBlank, jobFits, jobRecordFault}
+use Rattle.sheets.specs.JobSheet.{linksAt, typesAt, jobEnd, nIn, eIn, mIn, clockIn, jobOf, jobIn, jobHeadFault, jobBodyFault, jobFault, jobAnswer, readJob, typeFields, graphFields, unitFields, jobFields, jobSheet, writeJob}
 use Rattle.sheets.specs.declared.Job.{Job}
 use Rattle.sheets.specs.declared.JobRead.{JobRead}
 use Rattle.sheets.specs.declared.Reading.the-variants.{Read, Refused}
@@ -39,7 +39,7 @@ sheet-length j = length-pack (jobFields j) ∙ ap (λ (k : ℕ). bytesFor k) (to
 
 -- ---- what is read of a record's sheet
 
-module _ (j : Job) (t : JobShape j) (z : recordFault j ≡ 0) where
+module _ (j : Job) (t : JobShape j) (z : jobRecordFault j ≡ 0) where
   sound : JobSound j
   sound = none-record j z
 
@@ -149,16 +149,16 @@ module _ (j : Job) (t : JobShape j) (z : recordFault j ≡ 0) where
   unfolding jobSheet
   sheet-fill = subst (λ (k : ℕ). field (pack (jobFields j)) k (fill k) ≡ 0) (total-job j) (fill-pack (jobFields j) (fit-job j sound (t .costBound)))
 
-  head-none : headFault (jobSheet j) ≡ 0
-  unfolding headFault recordFault Holds
+  head-none : jobHeadFault (jobSheet j) ≡ 0
+  unfolding jobHeadFault jobRecordFault Holds
   head-none =
       let l = sheet-length j in
       none-orElse _ _ (form-none (jobSheet j) jobForm (held .0) (omega arith))
       (none-orElse _ _ (whole-none (length (jobSheet j)) jobHead (omega arith))
       (rw (held .1 .0, held .1 .1 .0, held .1 .1 .1 .0, held .1 .1 .1 .1 .1 .0) (orElse-none _ _ z .0)))
 
-  body-none : bodyFault (jobSheet j) j ≡ 0
-  unfolding bodyFault recordFault
+  body-none : jobBodyFault (jobSheet j) j ≡ 0
+  unfolding jobBodyFault jobRecordFault
   body-none =
       let l = sheet-length j in
       none-orElse _ _ (whole-none (length (jobSheet j)) (linksAt (j .n)) (omega arith))
@@ -166,26 +166,26 @@ module _ (j : Job) (t : JobShape j) (z : recordFault j ≡ 0) where
       (fill-none (jobSheet j) (jobEnd (j .n) (j .e) (j .m)) l sheet-fill))
 
   pub job-read-written : readJob (jobSheet j) ≡ record { answer = Read; job = j }
-  unfolding readJob jobFault jobRead
+  unfolding readJob jobFault jobAnswer
   job-read-written =
-      let q : jobFault (jobSheet j) ≡ 0 = orElse-go _ _ head-none ∙ ap (bodyFault (jobSheet j)) job-in ∙ body-none in
+      let q : jobFault (jobSheet j) ≡ 0 = orElse-go _ _ head-none ∙ ap (jobBodyFault (jobSheet j)) job-in ∙ body-none in
       rw (q, job-in)
 
 -- ---- what is written of a record read
 
 module _ (s : List ℕ) (z : jobFault s ≡ 0) where
-  heads : headFault s ≡ 0
+  heads : jobHeadFault s ≡ 0
   heads = job-head s z
 
   counts : Counts (nIn s) (eIn s) (mIn s) (clockIn s)
   counts = head-counts s heads
 
-  bodies : bodyFault s (jobIn s) ≡ 0
+  bodies : jobBodyFault s (jobIn s) ≡ 0
   unfolding jobFault
   bodies = orElse-none _ _ z .1
 
   behind : (length s ≡ bytesFor (jobEnd (nIn s) (eIn s) (mIn s))) × (field s (jobEnd (nIn s) (eIn s) (mIn s)) (fill (jobEnd (nIn s) (eIn s) (mIn s))) ≡ 0)
-  unfolding bodyFault jobOf
+  unfolding jobBodyFault jobOf
   behind = none-fill s (jobEnd (nIn s) (eIn s) (mIn s)) (orElse-none _ _ (orElse-none _ _ bodies .1) .1)
 
   -- the types' fields
@@ -229,7 +229,7 @@ module _ (s : List ℕ) (z : jobFault s ≡ 0) where
       (subst (λ (k : ℕ). Holds s (jobHead + k) links) (sym (total-kinds (jobIn s))) (double-read s (linksAt (nIn s)) opBits opBits (eIn s) maxLinks (counts .links)))
 
   spelt : Holds s 0 (jobFields (jobIn s))
-  unfolding Holds headFault jobOf
+  unfolding Holds jobHeadFault jobOf
   spelt =
       let e : typesAt (nIn s) (eIn s) ≡ jobHead + total (graphFields (jobIn s)) = omega (arith, total-graph (jobIn s)) in (
         none-form s jobForm (orElse-none _ _ heads .0),
@@ -282,8 +282,8 @@ module _ (s : List ℕ) (z : jobFault s ≡ 0) where
       (blank-cells (pairAt s (types + typeHead)) (kindCount * m) pairCells))
       (blank-cells (pairAt s (types + typeHead + timeBits)) (kindCount * m) pairCells))
 
-  record-none : recordFault (jobIn s) ≡ 0
-  unfolding recordFault headFault bodyFault jobOf
+  record-none : jobRecordFault (jobIn s) ≡ 0
+  unfolding jobRecordFault jobHeadFault jobBodyFault jobOf
   record-none =
       let l = behind .0 in
       none-orElse _ _ (orElse-none _ _ (orElse-none _ _ heads .1) .1)
@@ -292,10 +292,10 @@ module _ (s : List ℕ) (z : jobFault s ≡ 0) where
 
 -- a sheet that is read has no fault
 read-job : (s : List ℕ) (j : Job) → readJob s ≡ record { answer = Read; job = j } → (jobFault s ≡ 0) × (j ≡ jobIn s)
-unfolding readJob jobRead
+unfolding readJob jobAnswer
 read-job s j e = go (jobFault s) refl e
   where
-    go : (k : ℕ) → jobFault s ≡ k → jobRead (jobFault s) (jobIn s) ≡ record { answer = Read; job = j } → (jobFault s ≡ 0) × (j ≡ jobIn s)
+    go : (k : ℕ) → jobFault s ≡ k → jobAnswer (jobFault s) (jobIn s) ≡ record { answer = Read; job = j } → (jobFault s ≡ 0) × (j ≡ jobIn s)
     go zero q e = (q, sym (ap (λ (r : JobRead). r .job) (rw q at e)))
     go (suc k) q e =
         absurd (
@@ -303,7 +303,7 @@ read-job s j e = go (jobFault s) refl e
         let c : _≡_ {A = ℕ} 0 1 = cc in
         omega arith)
 
-pub job-written-read : (s : List ℕ) (j : Job) → Bytes s → readJob s ≡ record { answer = Read; job = j } → (jobSheet j ≡ s) × (recordFault j ≡ 0)
+pub job-written-read : (s : List ℕ) (j : Job) → Bytes s → readJob s ≡ record { answer = Read; job = j } → (jobSheet j ≡ s) × (jobRecordFault j ≡ 0)
 job-written-read s j hs e =
     let r = read-job s j e in
     rw (r .1) (sheet-again s (r .0) hs, record-none s (r .0))
@@ -315,7 +315,7 @@ pub job-read-output : (j : Job) → JobShape j → (before after : List ℕ) (si
     → readJob (take size after) ≡ record { answer = Read; job = j }
 unfolding writeJob
 job-read-output j t before after size w =
-    let f = wrote-sheet (recordFault j) paperJob (bytesFor (jobEnd (j .n) (j .e) (j .m))) (jobSheet j) before size after (sheet-length j) w in
+    let f = wrote-sheet (jobRecordFault j) paperJob (bytesFor (jobEnd (j .n) (j .e) (j .m))) (jobSheet j) before size after (sheet-length j) w in
     rw (f .1) (job-read-written j t (f .0))
 
 -- what the reader has read is written as the sheet, wherever it fits
@@ -325,4 +325,4 @@ unfolding writeJob
 job-write-input s j before after r hs e l w =
     let q = job-written-read s j hs e in
     let l' : length (jobSheet j) ≤ length before = rw (q .0) l in
-    rw (q .0) at (sheet-wrote (recordFault j) paperJob (bytesFor (jobEnd (j .n) (j .e) (j .m))) (jobSheet j) before r after (q .1) (sheet-length j) l' w)
+    rw (q .0) at (sheet-wrote (jobRecordFault j) paperJob (bytesFor (jobEnd (j .n) (j .e) (j .m))) (jobSheet j) before r after (q .1) (sheet-length j) l' w)

@@ -13,7 +13,7 @@ use Rattle.basics.proofs.TableLaws.{within-each}
 use Rattle.bits.specs.Bits.{Bytes, putField}
 use Rattle.bits.specs.Sheet.{total, bytesFor, fill, pack, many, putAll}
 use Rattle.bits.proofs.SheetLaws.{Fit, total-append, total-many, fit-append, fit-many, put-pack}
-use Rattle.sheets.specs.Limits.{maxOps, maxInsts, maxMark, maxSteps, maxInst, markBits, stepBits, instBits, rowBits}
+use Rattle.sheets.specs.Limits.{maxOps, maxInsts, maxSelect, maxSteps, maxInst, selectBits, stepBits, instBits, rowBits}
 use Rattle.sheets.specs.Columns.{single, double}
 use Rattle.sheets.specs.PlanSheet.{planEnd, planFits, planRecordFault, planFields, planSheet}
 use Rattle.sheets.specs.declared.Plan.{Plan}
@@ -25,7 +25,7 @@ use Rattle.sheets.proofs.PlanLaws.{none-sizes}
 pub record PlanSound (p : Plan) : Type 0 where
   pub ops : p .n ≤ maxOps
   pub insts : p .k ≤ maxInsts
-  pub marks : (i : ℕ) → i < p .k → cell (p .selection) i ≤ maxMark
+  pub marks : (i : ℕ) → i < p .k → cell (p .selection) i ≤ maxSelect
   pub starts : (i : ℕ) → i < p .n → cell (p .starts) i ≤ maxSteps
   pub rows : (i : ℕ) → i < p .n → cell (p .insts) i ≤ maxInst
   pub unusedMarks : blank (p .selection) (p .k) ≡ true
@@ -45,7 +45,7 @@ none-plan p h =
     record {
       ops = s .0;
       insts = s .1;
-      marks = within-each (p .selection) maxMark (p .k) (g .0);
+      marks = within-each (p .selection) maxSelect (p .k) (g .0);
       starts = within-each (p .starts) maxSteps (p .n) (g .1);
       rows = within-each (p .insts) maxInst (p .n) (f .1);
       unusedMarks = d .1;
@@ -56,8 +56,8 @@ none-plan p h =
 -- ---- widths
 
 module _ (p : Plan) where
-  pub total-marks : total (many (single markBits (p .selection)) (p .k)) ≡ markBits * p .k
-  total-marks = total-many (single markBits (p .selection)) markBits (total-single markBits (p .selection)) (p .k)
+  pub total-marks : total (many (single selectBits (p .selection)) (p .k)) ≡ selectBits * p .k
+  total-marks = total-many (single selectBits (p .selection)) selectBits (total-single selectBits (p .selection)) (p .k)
 
   pub total-rows : total (many (double stepBits (p .starts) instBits (p .insts) 0) (p .n)) ≡ rowBits * p .n
   total-rows = total-many (double stepBits (p .starts) instBits (p .insts) 0) rowBits (total-double stepBits (p .starts) instBits (p .insts) 0) (p .n)
@@ -65,12 +65,12 @@ module _ (p : Plan) where
   pub total-plan : total (planFields p) ≡ planEnd (p .n) (p .k)
   unfolding total
   total-plan =
-      omega (arith, total-append (many (single markBits (p .selection)) (p .k)) (many (double stepBits (p .starts) instBits (p .insts) 0) (p .n)), total-marks, total-rows)
+      omega (arith, total-append (many (single selectBits (p .selection)) (p .k)) (many (double stepBits (p .starts) instBits (p .insts) 0) (p .n)), total-marks, total-rows)
 
 -- ---- values fit, and are put
 
 module _ (p : Plan) (h : PlanSound p) where
-  pub marks-fit : (i : ℕ) → i < p .k → cell (p .selection) i < 2 ^ markBits
+  pub marks-fit : (i : ℕ) → i < p .k → cell (p .selection) i < 2 ^ selectBits
   marks-fit i l = omega (arith, h .marks i l)
 
   pub starts-fit : (i : ℕ) → i < p .n → cell (p .starts) (0 + i) < 2 ^ stepBits
@@ -91,8 +91,8 @@ module _ (p : Plan) (h : PlanSound p) where
       omega (arith, h .ops),
       (
         omega (arith, h .insts),
-        fit-append (many (single markBits (p .selection)) (p .k)) (many (double stepBits (p .starts) instBits (p .insts) 0) (p .n))
-            (fit-many (single markBits (p .selection)) (p .k) (λ i l. (marks-fit i l, tt)))
+        fit-append (many (single selectBits (p .selection)) (p .k)) (many (double stepBits (p .starts) instBits (p .insts) 0) (p .n))
+            (fit-many (single selectBits (p .selection)) (p .k) (λ i l. (marks-fit i l, tt)))
             (fit-many (double stepBits (p .starts) instBits (p .insts) 0) (p .n) (λ i l. (starts-fit i l, (rows-fit i l, tt)))),
       ),
     ),

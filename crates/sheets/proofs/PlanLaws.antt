@@ -6,15 +6,15 @@ use borrow.Author.Tests.{leb-true}
 use Rattle.basics.proofs.CountLaws.{and-both}
 use Rattle.basics.proofs.FaultLaws.{orElse-none, unless-none}
 use Rattle.sheets.specs.Limits.{maxOps, maxInsts}
-use Rattle.sheets.specs.PlanSheet.{opsIn, instsIn, planIn, sizesFault, planHeadFault, planFault, planRefused, planRead, readPlan}
+use Rattle.sheets.specs.PlanSheet.{opsIn, instsIn, planIn, planCountsFault, planHeadFault, planFault, planRefused, planAnswer, readPlan}
 use Rattle.sheets.specs.declared.Plan.{Plan}
 use Rattle.sheets.specs.declared.PlanRead.{PlanRead}
 use Rattle.sheets.specs.declared.Reading.the-variants.{Read}
 
 -- ---- sizes within their limits
 
-pub none-sizes : (n k : ℕ) → sizesFault n k ≡ 0 → (n ≤ maxOps) × (k ≤ maxInsts)
-unfolding sizesFault
+pub none-sizes : (n k : ℕ) → planCountsFault n k ≡ 0 → (n ≤ maxOps) × (k ≤ maxInsts)
+unfolding planCountsFault
 none-sizes n k h =
     let a = and-both _ _ (unless-none _ 2 h) in
     (leb-true _ _ (a .0), leb-true _ _ (a .1))
@@ -26,10 +26,10 @@ head-sizes s h = none-sizes _ _ (orElse-none _ _ (orElse-none _ _ h .1) .1)
 -- ---- the reader's answer
 
 pub plan-refused : (s : List ℕ) (k : ℕ) (r : PlanRead) → r ≡ planRefused k → k ≡ planFault s → (k ≡ 0 → ⊥) → r ≡ readPlan s
-unfolding readPlan planRead
+unfolding readPlan planAnswer
 plan-refused s zero r w e q = absurd (q refl)
 plan-refused s (suc k) r w e q = rw (← e) w
 
 pub plan-read : (s : List ℕ) (p : Plan) → planFault s ≡ 0 → p ≡ planIn s → _≡_ {A = PlanRead} (record { answer = Read; plan = p }) (readPlan s)
-unfolding readPlan planRead
+unfolding readPlan planAnswer
 plan-read s p e w = rw (e, w)

@@ -15,10 +15,10 @@ use Rattle.bits.specs.Bits.{Bytes, field}
 use Rattle.bits.specs.Sheet.{Field, bytesFor, fill, pack, many}
 use Rattle.bits.proofs.FieldLaws.{field-lt}
 use Rattle.bits.proofs.SheetLaws.{Holds, holds-pack, pack-holds, fill-pack, length-pack, holds-append, append-holds}
-use Rattle.sheets.specs.Limits.{planForm, maxOps, maxInsts, maxMark, maxSteps, maxInst, markBits, stepBits, instBits, rowBits, planHead}
+use Rattle.sheets.specs.Limits.{planForm, maxOps, maxInsts, maxSelect, maxSteps, maxInst, selectBits, stepBits, instBits, rowBits, planHead}
 use Rattle.sheets.specs.Answers.{Writes}
 use Rattle.sheets.specs.Columns.{columnAt, single, double}
-use Rattle.sheets.specs.PlanSheet.{PlanShape, rowsAt, planEnd, opsIn, instsIn, planOf, planIn, sizesFault, planHeadFault, planBodyFault, planFault, planRead, readPlan, planFits, planRecordFault, planFields, planSheet, writePlan}
+use Rattle.sheets.specs.PlanSheet.{PlanShape, rowsAt, planEnd, opsIn, instsIn, planOf, planIn, planCountsFault, planHeadFault, planBodyFault, planFault, planAnswer, readPlan, planFits, planRecordFault, planFields, planSheet, writePlan}
 use Rattle.sheets.specs.declared.Plan.{Plan}
 use Rattle.sheets.specs.declared.PlanRead.{PlanRead}
 use Rattle.sheets.specs.declared.Reading.the-variants.{Read, Refused}
@@ -45,11 +45,11 @@ module _ (p : Plan) (t : PlanShape p) (z : planRecordFault p ≡ 0) where
   held = holds-pack (planFields p) (fit-plan p sound)
 
   -- selection and rows, each where it starts
-  tables : Holds (planSheet p) planHead (many (single markBits (p .selection)) (p .k))
+  tables : Holds (planSheet p) planHead (many (single selectBits (p .selection)) (p .k))
       × Holds (planSheet p) (rowsAt (p .k)) (many (double stepBits (p .starts) instBits (p .insts) 0) (p .n))
   unfolding Holds
   tables =
-      let marks : List Field = many (single markBits (p .selection)) (p .k) in
+      let marks : List Field = many (single selectBits (p .selection)) (p .k) in
       let rows : List Field = many (double stepBits (p .starts) instBits (p .insts) 0) (p .n) in
       let r = holds-append (planSheet p) planHead marks rows (held .1 .1 .1) in
       (r .0, subst (λ (k : ℕ). Holds (planSheet p) (planHead + k) rows) (total-marks p) (r .1))
@@ -58,7 +58,7 @@ module _ (p : Plan) (t : PlanShape p) (z : planRecordFault p ≡ 0) where
   unfolding planOf
   plan-there =
       let s : List ℕ = planSheet p in
-      let a = read-single s planHead markBits (p .k) maxInsts (p .selection) (t .selection) (sound .insts) (sound .unusedMarks) (tables .0) in
+      let a = read-single s planHead selectBits (p .k) maxInsts (p .selection) (t .selection) (sound .insts) (sound .unusedMarks) (tables .0) in
       let b = read-double s (rowsAt (p .k)) stepBits (p .n) maxOps (p .starts) (t .starts) (sound .ops) (sound .unusedStarts) instBits (p .insts) (tables .1) in
       let c = read-double' s (rowsAt (p .k)) instBits (p .n) maxOps (p .insts) (t .insts) (sound .ops) (sound .unusedRows) stepBits (p .starts) (tables .1) in
       λ i. record { n = p .n; k = p .k; selection = a i; starts = b i; insts = c i }
@@ -77,7 +77,7 @@ module _ (p : Plan) (t : PlanShape p) (z : planRecordFault p ≡ 0) where
       let l = sheet-length p in
       none-orElse _ _ (form-none (planSheet p) planForm (held .0) (omega arith))
       (none-orElse _ _ (whole-none (length (planSheet p)) planHead (omega arith))
-      (ap₂ sizesFault (held .1 .0) (held .1 .1 .0) ∙ orElse-none _ _ z .0))
+      (ap₂ planCountsFault (held .1 .0) (held .1 .1 .0) ∙ orElse-none _ _ z .0))
 
   body-none : planBodyFault (planSheet p) p ≡ 0
   unfolding planBodyFault
@@ -86,7 +86,7 @@ module _ (p : Plan) (t : PlanShape p) (z : planRecordFault p ≡ 0) where
       none-orElse _ _ (whole-none (length (planSheet p)) (planEnd (p .n) (p .k)) (omega arith)) (fill-none (planSheet p) (planEnd (p .n) (p .k)) l sheet-fill)
 
   pub plan-read-written : readPlan (planSheet p) ≡ record { answer = Read; plan = p }
-  unfolding readPlan planFault planRead
+  unfolding readPlan planFault planAnswer
   plan-read-written =
       let q : planFault (planSheet p) ≡ 0 = orElse-go _ _ head-none ∙ ap (planBodyFault (planSheet p)) plan-in ∙ body-none in
       rw (q, plan-in)
@@ -108,14 +108,14 @@ module _ (s : List ℕ) (z : planFault s ≡ 0) where
   spelt : Holds s 0 (planFields (planIn s))
   unfolding Holds planOf planHeadFault
   spelt =
-      let marks : List Field = many (single markBits (planIn s .selection)) (instsIn s) in
+      let marks : List Field = many (single selectBits (planIn s .selection)) (instsIn s) in
       let rows : List Field = many (double stepBits (planIn s .starts) instBits (planIn s .insts) 0) (opsIn s) in (
         none-form s planForm (orElse-none _ _ heads .0),
         (
           refl,
           (
             refl,
-            append-holds s planHead marks rows (single-read s planHead markBits (instsIn s) maxInsts (sizes .1))
+            append-holds s planHead marks rows (single-read s planHead selectBits (instsIn s) maxInsts (sizes .1))
                 (subst (λ (k : ℕ). Holds s (planHead + k) rows) (sym (total-marks (planIn s))) (double-read s (rowsAt (instsIn s)) stepBits instBits (opsIn s) maxOps (sizes .0))),
           ),
         ),
@@ -137,21 +137,21 @@ module _ (s : List ℕ) (z : planFault s ≡ 0) where
   record-none =
       let n : ℕ = opsIn s in
       let k : ℕ = instsIn s in
-      let a = small planHead markBits markBits k maxInsts maxMark (sizes .1) (λ i. omega (arith, field-lt s (planHead + markBits * i) markBits)) in
+      let a = small planHead selectBits selectBits k maxInsts maxSelect (sizes .1) (λ i. omega (arith, field-lt s (planHead + selectBits * i) selectBits)) in
       let b = small (rowsAt k) rowBits stepBits n maxOps maxSteps (sizes .0) (λ i. omega (arith, field-lt s (rowsAt k + rowBits * i) stepBits)) in
       let d = small (rowsAt k + stepBits) rowBits instBits n maxOps maxInst (sizes .0) (λ i. omega (arith, field-lt s (rowsAt k + stepBits + rowBits * i) instBits)) in
       none-orElse _ _ (orElse-none _ _ (orElse-none _ _ heads .1) .1)
       (none-unless _ 7 (both-and _ _ (both-and _ _ (both-and _ _ (both-and _ _ (both-and _ _ a b) d)
-      (blank-cells (columnAt s planHead markBits markBits) k maxInsts))
+      (blank-cells (columnAt s planHead selectBits selectBits) k maxInsts))
       (blank-cells (columnAt s (rowsAt k) rowBits stepBits) n maxOps))
       (blank-cells (columnAt s (rowsAt k + stepBits) rowBits instBits) n maxOps)))
 
 -- a sheet that is read has no fault
 read-plan : (s : List ℕ) (p : Plan) → readPlan s ≡ record { answer = Read; plan = p } → (planFault s ≡ 0) × (p ≡ planIn s)
-unfolding readPlan planRead
+unfolding readPlan planAnswer
 read-plan s p e = go (planFault s) refl e
   where
-    go : (k : ℕ) → planFault s ≡ k → planRead (planFault s) (planIn s) ≡ record { answer = Read; plan = p } → (planFault s ≡ 0) × (p ≡ planIn s)
+    go : (k : ℕ) → planFault s ≡ k → planAnswer (planFault s) (planIn s) ≡ record { answer = Read; plan = p } → (planFault s ≡ 0) × (p ≡ planIn s)
     go zero q e = (q, sym (ap (λ (r : PlanRead). r .plan) (rw q at e)))
     go (suc k) q e =
         absurd (

@@ -14,8 +14,8 @@ use Rattle.basics.proofs.CountLaws.{and-both, either, allTo-each}
 use Rattle.basics.proofs.FaultLaws.{orElse-none, orElse-go, unless-none, first-none, first-cong}
 use Rattle.basics.proofs.TableLaws.{within-each}
 use Rattle.sheets.specs.Limits.{maxCopies, maxInsts, kindCount, maxKind, maxSteps, maxTime, linkBits, typeBits}
-use Rattle.sheets.specs.JobRecord.{linkFault, pairOk, pairSound, copiesOk, typeFault, graphBlank, unitsBlank, jobFits, rulesFault, recordFault}
-use Rattle.sheets.specs.JobSheet.{linksAt, typesAt, jobEnd, linkGroup, typeGroup, tablesFault}
+use Rattle.sheets.specs.JobRecord.{linkFault, pairOk, pairSound, copiesOk, typeFault, graphBlank, unitsBlank, jobFits, jobRulesFault, jobRecordFault}
+use Rattle.sheets.specs.JobSheet.{linksAt, typesAt, jobEnd, linkGroup, typeGroup, jobTablesFault}
 use Rattle.sheets.specs.declared.Job.{Job}
 use Rattle.sheets.proofs.GroupLaws.{whole-none}
 use Rattle.sheets.proofs.JobLaws.{Counts, none-counts}
@@ -86,8 +86,8 @@ pub record JobSound (j : Job) : Type 0 where
   pub unusedTimes : blank (j .times) (kindCount * j .m) ≡ true
   pub unusedIntervals : blank (j .intervals) (kindCount * j .m) ≡ true
 
-pub none-record : (j : Job) → recordFault j ≡ 0 → JobSound j
-unfolding recordFault rulesFault jobFits graphBlank unitsBlank
+pub none-record : (j : Job) → jobRecordFault j ≡ 0 → JobSound j
+unfolding jobRecordFault jobRulesFault jobFits graphBlank unitsBlank
 none-record j h =
     let r = orElse-none _ _ (orElse-none _ _ h .1) in
     let l = orElse-none _ _ (r .0) in
@@ -119,8 +119,8 @@ none-record j h =
 
 -- ---- in a sheet with room for all of them, links and types have the record's own faults
 
-pub tables-rules : (j : Job) (bytes : ℕ) → jobEnd (j .n) (j .e) (j .m) ≤ 8 * bytes → tablesFault bytes j ≡ rulesFault j
-unfolding tablesFault rulesFault linkGroup typeGroup
+pub tables-rules : (j : Job) (bytes : ℕ) → jobEnd (j .n) (j .e) (j .m) ≤ 8 * bytes → jobTablesFault bytes j ≡ jobRulesFault j
+unfolding jobTablesFault jobRulesFault linkGroup typeGroup
 tables-rules j bytes h =
     ap₂ (λ (a b : ℕ). a orElse b)
     (first-cong (linkGroup bytes (j .from) (j .to) (j .n)) (linkFault (j .from) (j .to) (j .n)) (j .e)

@@ -10,9 +10,9 @@ use Rattle.basics.specs.Tables.{filled}
 use Rattle.bits.specs.Bits.{bit, field, bytesOf}
 use Rattle.bits.specs.Sheet.{total, number, pack, many}
 use Rattle.sheets.specs.Groups.{runsOut, formFault, fillFault}
-use Rattle.sheets.specs.JobRecord.{countsFault, ascends, linkFault, pairSound, typeFault}
-use Rattle.sheets.specs.JobSheet.{jobOf, headFault, linkGroup, typeGroup, tablesFault, bodyFault, jobFault, jobRead, readJob, typeFields, jobSheet}
-use Rattle.sheets.specs.PlanSheet.{planOf, sizesFault, planHeadFault, planBodyFault, planFault, planRead, readPlan, planSheet}
+use Rattle.sheets.specs.JobRecord.{jobCountsFault, ascends, linkFault, pairSound, typeFault}
+use Rattle.sheets.specs.JobSheet.{jobOf, jobHeadFault, linkGroup, typeGroup, jobTablesFault, jobBodyFault, jobFault, jobAnswer, readJob, typeFields, jobSheet}
+use Rattle.sheets.specs.PlanSheet.{planOf, planCountsFault, planHeadFault, planBodyFault, planFault, planAnswer, readPlan, planSheet}
 use Rattle.sheets.specs.declared.Job.{Job}
 use Rattle.sheets.specs.declared.Plan.{Plan}
 use Rattle.sheets.specs.declared.Reading.the-variants.{Read}
@@ -41,7 +41,7 @@ abbrev pub emptySheet : List ℕ
 emptySheet = 0x10 ∷ 0x00 ∷ 0x00 ∷ 0x00 ∷ 0x20 ∷ 0x00 ∷ []
 
 pub empty-reads : readJob emptySheet ≡ record { answer = Read; job = emptyJob }
-unfolding readJob jobRead jobFault headFault bodyFault tablesFault linkGroup typeGroup countsFault linkFault ascends typeFault pairSound jobOf runsOut formFault fillFault faultUnless _orElse_ first allTo sumTo filled field bit
+unfolding readJob jobAnswer jobFault jobHeadFault jobBodyFault jobTablesFault linkGroup typeGroup jobCountsFault linkFault ascends typeFault pairSound jobOf runsOut formFault fillFault faultUnless _orElse_ first allTo sumTo filled field bit
 empty-reads = refl
 
 pub empty-writes : jobSheet emptyJob ≡ emptySheet
@@ -77,7 +77,7 @@ sheetP =
     ∷ 0x00 ∷ 0x00 ∷ 0x00 ∷ 0x00 ∷ 0x00 ∷ 0x00 ∷ []
 
 pub P-reads : readJob sheetP ≡ record { answer = Read; job = jobP }
-unfolding readJob jobRead jobFault headFault bodyFault tablesFault linkGroup typeGroup countsFault linkFault ascends typeFault pairSound jobOf runsOut formFault fillFault faultUnless _orElse_ first allTo sumTo filled field bit
+unfolding readJob jobAnswer jobFault jobHeadFault jobBodyFault jobTablesFault linkGroup typeGroup jobCountsFault linkFault ascends typeFault pairSound jobOf runsOut formFault fillFault faultUnless _orElse_ first allTo sumTo filled field bit
 P-reads = refl
 
 pub P-writes : jobSheet jobP ≡ sheetP
@@ -100,7 +100,7 @@ abbrev pub sheetCase1 : List ℕ
 sheetCase1 = 0x21 ∷ 0x8d ∷ 0x84 ∷ 0x84 ∷ 0x43 ∷ 0x10 ∷ []
 
 pub case1-reads : readPlan sheetCase1 ≡ record { answer = Read; plan = planCase1 }
-unfolding readPlan planRead planFault planHeadFault planBodyFault sizesFault planOf runsOut formFault fillFault faultUnless _orElse_ filled field bit
+unfolding readPlan planAnswer planFault planHeadFault planBodyFault planCountsFault planOf runsOut formFault fillFault faultUnless _orElse_ filled field bit
 case1-reads = refl
 
 pub case1-writes : planSheet planCase1 ≡ sheetCase1

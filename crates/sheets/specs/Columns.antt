@@ -7,7 +7,7 @@ use Rattle.bits.specs.Sheet.{Field, of}
 use Rattle.sheets.specs.Limits.{kindCount, timeBits, pairBits, typeBits}
 
 -- a column's first bit, stride and width are small
-pub record Placed (at stride w : ℕ) : Type 0 where
+pub record InReach (at stride w : ℕ) : Type 0 where
   pub near : at < 2 ^ 24
   pub close : stride < 2 ^ 16
   pub narrow : w ≤ 16

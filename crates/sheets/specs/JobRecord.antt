@@ -1,5 +1,5 @@
--- What is asked of a job's numbers, wherever they stand: `countsFault` (3), `linkFault` (4), `typeFault` (5) of a sheet or a
--- record, `jobFits` of a record (7); and `recordFault`, the first fault of a record to be written.
+-- What is asked of a job's numbers, wherever they stand: `jobCountsFault` (3), `linkFault` (4), `typeFault` (5) of a sheet or a
+-- record, `jobFits` of a record (7); and `jobRecordFault`, the first fault of a record to be written.
 use Prim.Native.Nat.{ℕ, zero, suc, _+_, _*_, _^_, _<_}
 use mathlib.Core.Path.{_≡_}
 use mathlib.Core.Bool.{Bool, true, _&&_, _||_}
@@ -26,8 +26,8 @@ pub record JobShape (j : Job) : Type 0 where
 
 -- ---- N, E, M and the clock
 
-unfoldable pub countsFault : ℕ → ℕ → ℕ → ℕ → ℕ
-countsFault n e m clock =
+unfoldable pub jobCountsFault : ℕ → ℕ → ℕ → ℕ → ℕ
+jobCountsFault n e m clock =
     faultUnless (leb n maxOps && leb e maxLinks && leb m maxTypes && leb 1 clock && leb clock maxTime) outsideLimit
 
 -- ---- a link (a, b): a < b < N, and links ascend strictly by a, then b
@@ -75,13 +75,13 @@ jobFits j =
 -- ---- the first fault of a record to be written
 
 -- of its links, then of its types
-unfoldable pub rulesFault : Job → ℕ
-rulesFault j =
+unfoldable pub jobRulesFault : Job → ℕ
+jobRulesFault j =
     first (linkFault (j .from) (j .to) (j .n)) (j .e) orElse
     first (typeFault (j .copies) (j .times) (j .intervals)) (j .m)
 
-unfoldable pub recordFault : Job → ℕ
-recordFault j =
-    countsFault (j .n) (j .e) (j .m) (j .clock) orElse
-    rulesFault j orElse
+unfoldable pub jobRecordFault : Job → ℕ
+jobRecordFault j =
+    jobCountsFault (j .n) (j .e) (j .m) (j .clock) orElse
+    jobRulesFault j orElse
     faultUnless (jobFits j) recordBroken

@@ -12,7 +12,7 @@ use Rattle.sheets.specs.Limits.{jobForm, maxOps, maxLinks, maxTypes, pai
 use Rattle.sheets.specs.Answers.{written}
 use Rattle.sheets.specs.Groups.{runsOut, formFault, fillFault}
 use Rattle.sheets.specs.Columns.{columnAt, pairAt, single, double}
-use Rattle.sheets.specs.JobRecord.{countsFault, linkFault, typeFault, recordFault}
+use Rattle.sheets.specs.JobRecord.{jobCountsFault, linkFault, typeFault, jobRecordFault}
 use Rattle.sheets.specs.declared.Job.{Job}
 use Rattle.sheets.specs.declared.JobRead.{JobRead}
 use Rattle.sheets.specs.declared.Reading.the-variants.{Read, Refused}
@@ -67,11 +67,11 @@ jobIn s = jobOf s (nIn s) (eIn s) (mIn s)
 
 -- ---- its first fault, in stream order
 
-unfoldable pub headFault : List ℕ → ℕ
-headFault s =
+unfoldable pub jobHeadFault : List ℕ → ℕ
+jobHeadFault s =
     formFault s jobForm orElse
     runsOut (length s) jobHead orElse
-    countsFault (nIn s) (eIn s) (mIn s) (clockIn s)
+    jobCountsFault (nIn s) (eIn s) (mIn s) (clockIn s)
 
 unfoldable pub linkGroup : ℕ → List ℕ → List ℕ → ℕ → ℕ → ℕ
 linkGroup bytes from to n i = runsOut bytes (linksAt n + linkBits * (i + 1)) orElse linkFault from to n i
@@ -80,20 +80,20 @@ unfoldable pub typeGroup : ℕ → ℕ → List ℕ → List ℕ → List ℕ �
 typeGroup bytes at copies times intervals y = runsOut bytes (at + typeBits * (y + 1)) orElse typeFault copies times intervals y
 
 -- of links, then of types
-unfoldable pub tablesFault : ℕ → Job → ℕ
-tablesFault bytes j =
+unfoldable pub jobTablesFault : ℕ → Job → ℕ
+jobTablesFault bytes j =
     first (linkGroup bytes (j .from) (j .to) (j .n)) (j .e) orElse
     first (typeGroup bytes (typesAt (j .n) (j .e)) (j .copies) (j .times) (j .intervals)) (j .m)
 
 -- of kinds, links, types and fill, in a sheet that spells j
-unfoldable pub bodyFault : List ℕ → Job → ℕ
-bodyFault s j =
+unfoldable pub jobBodyFault : List ℕ → Job → ℕ
+jobBodyFault s j =
     runsOut (length s) (linksAt (j .n)) orElse
-    tablesFault (length s) j orElse
+    jobTablesFault (length s) j orElse
     fillFault s (jobEnd (j .n) (j .e) (j .m))
 
 unfoldable pub jobFault : List ℕ → ℕ
-jobFault s = headFault s orElse bodyFault s (jobIn s)
+jobFault s = jobHeadFault s orElse jobBodyFault s (jobIn s)
 
 -- ---- the reader
 
@@ -119,23 +119,23 @@ abbrev pub jobRefused : ℕ → JobRead
 jobRefused fault = record { answer = Refused fault paperJob; job = noJob }
 
 -- the answer where the first fault is the one given and the bytes spell j
-unfoldable pub jobRead : ℕ → Job → JobRead
-jobRead zero j = record { answer = Read; job = j }
-jobRead (suc k) j = jobRefused (suc k)
+unfoldable pub jobAnswer : ℕ → Job → JobRead
+jobAnswer zero j = record { answer = Read; job = j }
+jobAnswer (suc k) j = jobRefused (suc k)
 
 unfoldable pub readJob : List ℕ → JobRead
-readJob s = jobRead (jobFault s) (jobIn s)
+readJob s = jobAnswer (jobFault s) (jobIn s)
 
 -- ---- the writer
 
-abbrev pub countFields : ℕ → ℕ → ℕ → List Field
-countFields n e m = of formBits jobForm ∷ of opBits n ∷ of linkCountBits e ∷ of typeCountBits m ∷ []
+abbrev pub jobCountFields : ℕ → ℕ → ℕ → List Field
+jobCountFields n e m = of formBits jobForm ∷ of opBits n ∷ of linkCountBits e ∷ of typeCountBits m ∷ []
 
-abbrev pub timeFields : ℕ → ℕ → ℕ → List Field
-timeFields t clock wire = of stepBits t ∷ of timeBits clock ∷ of timeBits wire ∷ []
+abbrev pub jobTimeFields : ℕ → ℕ → ℕ → List Field
+jobTimeFields t clock wire = of stepBits t ∷ of timeBits clock ∷ of timeBits wire ∷ []
 
-abbrev pub headFields : Job → List Field
-headFields j = countFields (j .n) (j .e) (j .m) ++ timeFields (j .t) (j .clock) (j .wire)
+abbrev pub jobHeadFields : Job → List Field
+jobHeadFields j = jobCountFields (j .n) (j .e) (j .m) ++ jobTimeFields (j .t) (j .clock) (j .wire)
 
 unfoldable pub typeFields : List ℕ → List ℕ → List ℕ → List ℕ → ℕ → List Field
 typeFields costs copies times intervals y =
@@ -148,14 +148,14 @@ abbrev pub unitFields : Job → List Field
 unitFields j = many (typeFields (j .costs) (j .copies) (j .times) (j .intervals)) (j .m)
 
 abbrev pub jobFields : Job → List Field
-jobFields j = headFields j ++ graphFields j ++ unitFields j
+jobFields j = jobHeadFields j ++ graphFields j ++ unitFields j
 
 unfoldable pub jobSheet : Job → List ℕ
 jobSheet j = pack (jobFields j)
 
 -- into an output of `room` bytes
 unfoldable pub writeJob : Job → ℕ → Written
-writeJob j room = written (recordFault j) paperJob (bytesFor (jobEnd (j .n) (j .e) (j .m))) room
+writeJob j room = written (jobRecordFault j) paperJob (bytesFor (jobEnd (j .n) (j .e) (j .m))) room
 
 -- ---- inside the writer
 

@@ -41,8 +41,8 @@ abbrev pub maxTime : ℕ
 maxTime = 1023
 
 -- a selection's cell: 1 selected, 0 not
-abbrev pub maxMark : ℕ
-maxMark = 1
+abbrev pub maxSelect : ℕ
+maxSelect = 1
 
 -- cells of the tables of times and intervals: kind k of type y has cell kindCount * y + k
 abbrev pub pairCells : ℕ
@@ -85,8 +85,8 @@ costBits = 16
 abbrev pub copiesBits : ℕ
 copiesBits = 3
 
-abbrev pub markBits : ℕ
-markBits = 1
+abbrev pub selectBits : ℕ
+selectBits = 1
 
 abbrev pub instBits : ℕ
 instBits = 4

@@ -11,7 +11,7 @@ use Rattle.basics.specs.Numbers.{outsideLimit, recordBroken, paperPlan}
 use Rattle.basics.specs.Tables.{cells, within, blank}
 use Rattle.bits.specs.Bits.{field}
 use Rattle.bits.specs.Sheet.{Field, of, bytesFor, pack, many}
-use Rattle.sheets.specs.Limits.{planForm, maxOps, maxInsts, maxInst, maxSteps, maxMark, formBits, opBits, instCountBits, stepBits, instBits, markBits, nAt, kAt, planHead, rowBits}
+use Rattle.sheets.specs.Limits.{planForm, maxOps, maxInsts, maxInst, maxSteps, maxSelect, formBits, opBits, instCountBits, stepBits, instBits, selectBits, nAt, kAt, planHead, rowBits}
 use Rattle.sheets.specs.Answers.{written}
 use Rattle.sheets.specs.Groups.{runsOut, formFault, fillFault}
 use Rattle.sheets.specs.Columns.{columnAt, single, double}
@@ -29,7 +29,7 @@ pub record PlanShape (p : Plan) : Type 0 where
 -- ---- where each group starts
 
 abbrev pub rowsAt : ℕ → ℕ
-rowsAt k = planHead + markBits * k
+rowsAt k = planHead + selectBits * k
 
 abbrev pub planEnd : ℕ → ℕ → ℕ
 planEnd n k = rowsAt k + rowBits * n
@@ -48,7 +48,7 @@ planOf s n k =
     record {
       n = n;
       k = k;
-      selection = cells (columnAt s planHead markBits markBits) k maxInsts;
+      selection = cells (columnAt s planHead selectBits selectBits) k maxInsts;
       starts = cells (columnAt s (rowsAt k) rowBits stepBits) n maxOps;
       insts = cells (columnAt s (rowsAt k + stepBits) rowBits instBits) n maxOps;
     }
@@ -58,14 +58,14 @@ planIn s = planOf s (opsIn s) (instsIn s)
 
 -- ---- its first fault, in stream order
 
-unfoldable pub sizesFault : ℕ → ℕ → ℕ
-sizesFault n k = faultUnless (leb n maxOps && leb k maxInsts) outsideLimit
+unfoldable pub planCountsFault : ℕ → ℕ → ℕ
+planCountsFault n k = faultUnless (leb n maxOps && leb k maxInsts) outsideLimit
 
 unfoldable pub planHeadFault : List ℕ → ℕ
 planHeadFault s =
     formFault s planForm orElse
     runsOut (length s) planHead orElse
-    sizesFault (opsIn s) (instsIn s)
+    planCountsFault (opsIn s) (instsIn s)
 
 -- of selection, rows and fill, in a sheet that spells p
 unfoldable pub planBodyFault : List ℕ → Plan → ℕ
@@ -84,32 +84,32 @@ abbrev pub planRefused : ℕ → PlanRead
 planRefused fault = record { answer = Refused fault paperPlan; plan = noPlan }
 
 -- the answer where the first fault is the one given and the bytes spell p
-unfoldable pub planRead : ℕ → Plan → PlanRead
-planRead zero p = record { answer = Read; plan = p }
-planRead (suc k) p = planRefused (suc k)
+unfoldable pub planAnswer : ℕ → Plan → PlanRead
+planAnswer zero p = record { answer = Read; plan = p }
+planAnswer (suc k) p = planRefused (suc k)
 
 unfoldable pub readPlan : List ℕ → PlanRead
-readPlan s = planRead (planFault s) (planIn s)
+readPlan s = planAnswer (planFault s) (planIn s)
 
 -- ---- a record: its numbers fit their fields, and its unused cells are 0
 
 unfoldable pub planFits : Plan → Bool
 planFits p =
-    within (p .selection) maxMark (p .k) && within (p .starts) maxSteps (p .n) && within (p .insts) maxInst (p .n)
+    within (p .selection) maxSelect (p .k) && within (p .starts) maxSteps (p .n) && within (p .insts) maxInst (p .n)
     && blank (p .selection) (p .k) && blank (p .starts) (p .n) && blank (p .insts) (p .n)
 
 unfoldable pub planRecordFault : Plan → ℕ
-planRecordFault p = sizesFault (p .n) (p .k) orElse faultUnless (planFits p) recordBroken
+planRecordFault p = planCountsFault (p .n) (p .k) orElse faultUnless (planFits p) recordBroken
 
 -- ---- the writer
 
-abbrev pub sizeFields : ℕ → ℕ → List Field
-sizeFields n k = of formBits planForm ∷ of opBits n ∷ of instCountBits k ∷ []
+abbrev pub planCountFields : ℕ → ℕ → List Field
+planCountFields n k = of formBits planForm ∷ of opBits n ∷ of instCountBits k ∷ []
 
 abbrev pub planFields : Plan → List Field
 planFields p =
-    sizeFields (p .n) (p .k)
-    ++ many (single markBits (p .selection)) (p .k)
+    planCountFields (p .n) (p .k)
+    ++ many (single selectBits (p .selection)) (p .k)
     ++ many (double stepBits (p .starts) instBits (p .insts) 0) (p .n)
 
 unfoldable pub planSheet : Plan → List ℕ

@@ -4,7 +4,7 @@ ghost use Prim.Native.Nat.{ℕ, _+_, _*_, _^_, _≤_, _<_};
 ghost use lib.ListN.{length};
 ghost use Rattle.basics.specs.Tables.{cell, filled, cells};
 ghost use Rattle.bits.specs.Sheet.{many, putAll};
-ghost use Rattle.sheets.specs.Columns.{Placed, columnAt, pairAt, single, double};
+ghost use Rattle.sheets.specs.Columns.{InReach, columnAt, pairAt, single, double};
 ghost use Rattle.sheets.specs.Limits.{maxTypes, maxInsts, maxOps, maxLinks, pairCells};
 use crate::limits::*;
 
@@ -18,7 +18,7 @@ pub fn fill_column(
     count: usize,
     table: &mut [u16],
 )
-    requires { ⌜ Placed at stride width × (count ≤ 64) × (count ≤ length (now table)) ⌝ }
+    requires { ⌜ InReach at stride width × (count ≤ 64) × (count ≤ length (now table)) ⌝ }
     ensures { λ _. ⌜ now (table .exit) ≡ filled (now (table .entry)) (columnAt (now (s .entry)) at stride width) count ⌝ }
 {
     let mut i: usize = 0;
@@ -36,7 +36,7 @@ pub fn type_column(
     width: usize,
     count: usize,
 ) -> [u16; TYPE_CELLS]
-    requires { ⌜ Placed at stride width × (count ≤ maxTypes) ⌝ }
+    requires { ⌜ InReach at stride width × (count ≤ maxTypes) ⌝ }
     ensures { λ r. ⌜ r ≡ cells (columnAt (now (s .entry)) at stride width) count maxTypes ⌝ }
 {
     let mut table = [0u16; TYPE_CELLS];
@@ -52,7 +52,7 @@ pub fn inst_column(
     width: usize,
     count: usize,
 ) -> [u16; INST_CELLS]
-    requires { ⌜ Placed at stride width × (count ≤ maxInsts) ⌝ }
+    requires { ⌜ InReach at stride width × (count ≤ maxInsts) ⌝ }
     ensures { λ r. ⌜ r ≡ cells (columnAt (now (s .entry)) at stride width) count maxInsts ⌝ }
 {
     let mut table = [0u16; INST_CELLS];
@@ -62,7 +62,7 @@ pub fn inst_column(
 
 // The same as a table with a cell for each operation.
 pub fn op_column(s: &[u8], at: usize, stride: usize, width: usize, count: usize) -> [u16; OP_CELLS]
-    requires { ⌜ Placed at stride width × (count ≤ maxOps) ⌝ }
+    requires { ⌜ InReach at stride width × (count ≤ maxOps) ⌝ }
     ensures { λ r. ⌜ r ≡ cells (columnAt (now (s .entry)) at stride width) count maxOps ⌝ }
 {
     let mut table = [0u16; OP_CELLS];
@@ -78,7 +78,7 @@ pub fn link_column(
     width: usize,
     count: usize,
 ) -> [u16; LINK_CELLS]
-    requires { ⌜ Placed at stride width × (count ≤ maxLinks) ⌝ }
+    requires { ⌜ InReach at stride width × (count ≤ maxLinks) ⌝ }
     ensures { λ r. ⌜ r ≡ cells (columnAt (now (s .entry)) at stride width) count maxLinks ⌝ }
 {
     let mut table = [0u16; LINK_CELLS];

@@ -8,8 +8,8 @@ ghost use Rattle.basics.specs.Tables.{cell as cellOf};
 ghost use Rattle.bits.specs.Sheet.{many, putAll};
 ghost use Rattle.sheets.specs.Limits.{kindCount, maxOps, maxLinks, maxTypes, maxSteps, maxTime, tAt, jobHead, typeBits};
 ghost use Rattle.sheets.specs.Answers.{Writes};
-ghost use Rattle.sheets.specs.JobRecord.{countsFault, ascends as ascendsAt, linkFault, pairOk, pairSound, typeFault, graphBlank, unitsBlank, jobFits, recordFault};
-ghost use Rattle.sheets.specs.JobSheet.{jobOf, jobIn, typesAt, jobEnd, headFault, linkGroup, typeGroup, tablesFault, bodyFault, jobRefused, readJob, countFields, timeFields, headFields, typeFields, graphFields, unitFields, TypesFit, jobSheet, writeJob};
+ghost use Rattle.sheets.specs.JobRecord.{jobCountsFault, ascends as ascendsAt, linkFault, pairOk, pairSound, typeFault, graphBlank, unitsBlank, jobFits, jobRecordFault};
+ghost use Rattle.sheets.specs.JobSheet.{jobOf, jobIn, typesAt, jobEnd, jobHeadFault, linkGroup, typeGroup, jobTablesFault, jobBodyFault, jobRefused, readJob, jobCountFields, jobTimeFields, jobHeadFields, typeFields, graphFields, unitFields, TypesFit, jobSheet, writeJob};
 use crate::Job;
 use crate::JobRead;
 use crate::Reading;
@@ -30,8 +30,8 @@ use basics::fault_unless;
 use basics::or_else;
 
 // N, E, M or the clock is outside its limit.
-fn counts_fault(n: u16, e: u16, m: u16, clock: u16) -> u32
-    ensures { λ r. ⌜ r ≡ countsFault n e m clock ⌝ }
+fn job_counts_fault(n: u16, e: u16, m: u16, clock: u16) -> u32
+    ensures { λ r. ⌜ r ≡ jobCountsFault n e m clock ⌝ }
 {
     fault_unless(
         (n <= MAX_OPS) & (e <= MAX_LINKS) & (m <= MAX_TYPES) & (1 <= clock) & (clock <= MAX_TIME),
@@ -144,20 +144,20 @@ fn types_fault(
 }
 
 // The first fault of the sheet's header.
-fn head_fault(s: &[u8]) -> u32
-    ensures { λ r. ⌜ r ≡ headFault (now (s .entry)) ⌝ }
+fn job_head_fault(s: &[u8]) -> u32
+    ensures { λ r. ⌜ r ≡ jobHeadFault (now (s .entry)) ⌝ }
 {
     let n = bits::field(s, N_AT, OP_BITS) as u16;
     let e = bits::field(s, E_AT, LINK_COUNT_BITS) as u16;
     let m = bits::field(s, M_AT, TYPE_COUNT_BITS) as u16;
     let clock = bits::field(s, CLOCK_AT, TIME_BITS) as u16;
-    let rest = or_else(runs_out(s.len(), JOB_HEAD), counts_fault(n, e, m, clock));
+    let rest = or_else(runs_out(s.len(), JOB_HEAD), job_counts_fault(n, e, m, clock));
     or_else(form_fault(s, JOB_FORM), rest)
 }
 
 // The first fault of links and types of the job j, in a sheet of so many bytes.
-fn tables_fault(bytes: usize, j: Job) -> u32
-    ensures { λ r. ⌜ r ≡ tablesFault bytes j ⌝ }
+fn job_tables_fault(bytes: usize, j: Job) -> u32
+    ensures { λ r. ⌜ r ≡ jobTablesFault bytes j ⌝ }
 {
     let from = j.from;
     let to = j.to;
@@ -173,12 +173,12 @@ fn tables_fault(bytes: usize, j: Job) -> u32
 }
 
 // The first fault behind the header, in a sheet that spells the job j.
-fn body_fault(s: &[u8], j: Job) -> u32
-    ensures { λ r. ⌜ r ≡ bodyFault (now (s .entry)) j ⌝ }
+fn job_body_fault(s: &[u8], j: Job) -> u32
+    ensures { λ r. ⌜ r ≡ jobBodyFault (now (s .entry)) j ⌝ }
 {
     let links = JOB_HEAD + KIND_BITS * (j.n as usize);
     let end = links + LINK_BITS * (j.e as usize) + TYPE_BITS * (j.m as usize);
-    let tables = or_else(tables_fault(s.len(), j), fill_fault(s, end));
+    let tables = or_else(job_tables_fault(s.len(), j), fill_fault(s, end));
     or_else(runs_out(s.len(), links), tables)
 }
 
@@ -209,7 +209,7 @@ fn job_of(s: &[u8], n: usize, e: usize, m: usize) -> Job
 
 // The job that a sheet spells whose header has no fault.
 fn job_in(s: &[u8]) -> Job
-    requires { ⌜ headFault (now s) ≡ 0 ⌝ }
+    requires { ⌜ jobHeadFault (now s) ≡ 0 ⌝ }
     ensures { λ r. ⌜ r ≡ jobIn (now (s .entry)) ⌝ }
 {
     let n = bits::field(s, N_AT, OP_BITS) as usize;
@@ -249,12 +249,12 @@ fn job_refused(fault: u32) -> JobRead
 pub fn read_job(sheet: &[u8]) -> JobRead
     ensures { λ r. ⌜ r ≡ readJob (now (sheet .entry)) ⌝ }
 {
-    let head = head_fault(sheet);
+    let head = job_head_fault(sheet);
     if head != 0 {
         return job_refused(head);
     }
     let job = job_in(sheet);
-    let body = body_fault(sheet, job);
+    let body = job_body_fault(sheet, job);
     if body != 0 {
         return job_refused(body);
     }
@@ -306,21 +306,21 @@ fn job_end(j: Job) -> usize
 }
 
 // The first fault of a record to be written.
-fn record_fault(j: Job) -> u32
-    ensures { λ r. ⌜ r ≡ recordFault j ⌝ }
+fn job_record_fault(j: Job) -> u32
+    ensures { λ r. ⌜ r ≡ jobRecordFault j ⌝ }
 {
     let bytes = (job_end(j) + 7) / 8;
     let fits = fault_unless(job_fits(j), basics::RECORD_BROKEN);
     or_else(
-        counts_fault(j.n, j.e, j.m, j.clock),
-        or_else(tables_fault(bytes, j), fits),
+        job_counts_fault(j.n, j.e, j.m, j.clock),
+        or_else(job_tables_fault(bytes, j), fits),
     )
 }
 
 // Puts form, N, E and M.
-fn put_counts(out: &mut [u8], n: u16, e: u16, m: u16)
+fn put_job_counts(out: &mut [u8], n: u16, e: u16, m: u16)
     requires { ⌜ (n ≤ maxOps) × (e ≤ maxLinks) × (m ≤ maxTypes) × (tAt ≤ 8 * length (now out)) ⌝ }
-    ensures { λ _. ⌜ now (out .exit) ≡ putAll (now (out .entry)) 0 (countFields n e m) ⌝ }
+    ensures { λ _. ⌜ now (out .exit) ≡ putAll (now (out .entry)) 0 (jobCountFields n e m) ⌝ }
 {
     bits::put(out, 0, FORM_BITS, JOB_FORM);
     bits::put(out, N_AT, OP_BITS, n as u32);
@@ -329,9 +329,9 @@ fn put_counts(out: &mut [u8], n: u16, e: u16, m: u16)
 }
 
 // Puts T, clock and wire.
-fn put_times(out: &mut [u8], t: u16, clock: u16, wire: u16)
+fn put_job_times(out: &mut [u8], t: u16, clock: u16, wire: u16)
     requires { ⌜ (t ≤ maxSteps) × (clock ≤ maxTime) × (wire ≤ maxTime) × (jobHead ≤ 8 * length (now out)) ⌝ }
-    ensures { λ _. ⌜ now (out .exit) ≡ putAll (now (out .entry)) tAt (timeFields t clock wire) ⌝ }
+    ensures { λ _. ⌜ now (out .exit) ≡ putAll (now (out .entry)) tAt (jobTimeFields t clock wire) ⌝ }
 {
     bits::put(out, T_AT, STEP_BITS, t as u32);
     bits::put(out, CLOCK_AT, TIME_BITS, clock as u32);
@@ -339,12 +339,12 @@ fn put_times(out: &mut [u8], t: u16, clock: u16, wire: u16)
 }
 
 // Puts the header.
-fn put_head(out: &mut [u8], j: Job)
-    requires { ⌜ (recordFault j ≡ 0) × (jobHead ≤ 8 * length (now out)) ⌝ }
-    ensures { λ _. ⌜ now (out .exit) ≡ putAll (now (out .entry)) 0 (headFields j) ⌝ }
+fn put_job_head(out: &mut [u8], j: Job)
+    requires { ⌜ (jobRecordFault j ≡ 0) × (jobHead ≤ 8 * length (now out)) ⌝ }
+    ensures { λ _. ⌜ now (out .exit) ≡ putAll (now (out .entry)) 0 (jobHeadFields j) ⌝ }
 {
-    put_counts(out, j.n, j.e, j.m);
-    put_times(out, j.t, j.clock, j.wire);
+    put_job_counts(out, j.n, j.e, j.m);
+    put_job_times(out, j.t, j.clock, j.wire);
 }
 
 // Puts m types from bit `at` on.
@@ -381,7 +381,7 @@ fn put_types(
 
 // Puts kinds and links behind the header.
 fn put_graph(out: &mut [u8], j: Job)
-    requires { ⌜ (recordFault j ≡ 0) × (typesAt (j .n) (j .e) ≤ 8 * length (now out)) ⌝ }
+    requires { ⌜ (jobRecordFault j ≡ 0) × (typesAt (j .n) (j .e) ≤ 8 * length (now out)) ⌝ }
     ensures { λ _. ⌜ now (out .exit) ≡ putAll (now (out .entry)) jobHead (graphFields j) ⌝ }
 {
     let kinds = j.kinds;
@@ -403,7 +403,7 @@ fn put_graph(out: &mut [u8], j: Job)
 
 // Puts the types behind the links.
 fn put_units(out: &mut [u8], j: Job)
-    requires { ⌜ (recordFault j ≡ 0) × (jobEnd (j .n) (j .e) (j .m) ≤ 8 * length (now out)) ⌝ }
+    requires { ⌜ (jobRecordFault j ≡ 0) × (jobEnd (j .n) (j .e) (j .m) ≤ 8 * length (now out)) ⌝ }
     ensures { λ _. ⌜ now (out .exit) ≡ putAll (now (out .entry)) (typesAt (j .n) (j .e)) (unitFields j) ⌝ }
 {
     let costs = j.costs;
@@ -418,7 +418,7 @@ fn put_units(out: &mut [u8], j: Job)
 pub fn write_job(job: Job, out: &mut [u8]) -> Written
     ensures { λ r. ⌜ Writes (writeJob job (length (now (out .entry)))) (jobSheet job) (now (out .entry)) r (now (out .exit)) ⌝ }
 {
-    let fault = record_fault(job);
+    let fault = job_record_fault(job);
     if fault != 0 {
         return Written::Refused {
             number: fault,
@@ -433,7 +433,7 @@ pub fn write_job(job: Job, out: &mut [u8]) -> Written
             paper: basics::PAPER_REQUEST,
         };
     }
-    put_head(out, job);
+    put_job_head(out, job);
     put_graph(out, job);
     put_units(out, job);
     bits::put(out, end, 8 * length - end, 0);

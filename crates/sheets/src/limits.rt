@@ -18,7 +18,7 @@ pub const MAX_STEPS: u16 = 31; // a deadline, a start
 
 pub const MAX_TIME: u16 = 1023; // clock, wire, times and intervals, in ns
 
-pub const MAX_MARK: u16 = 1; // a selection's cell
+pub const MAX_SELECT: u16 = 1; // a selection's cell
 
 // Cells of a record's tables.
 pub const KIND_COUNT: usize = 8;
@@ -54,7 +54,7 @@ pub const COST_BITS: usize = 16;
 
 pub const COPIES_BITS: usize = 3;
 
-pub const MARK_BITS: usize = 1;
+pub const SELECT_BITS: usize = 1;
 
 pub const INST_BITS: usize = 4;
 

@@ -5,7 +5,7 @@ ghost use lib.ListN.{length};
 ghost use Rattle.bits.specs.Sheet.{putAll};
 ghost use Rattle.sheets.specs.Limits.{maxOps, maxInsts, planHead};
 ghost use Rattle.sheets.specs.Answers.{Writes};
-ghost use Rattle.sheets.specs.PlanSheet.{planEnd, planOf, planIn, sizesFault, planHeadFault, planBodyFault, planRefused, readPlan, planFits, planRecordFault, sizeFields, planFields, planSheet, writePlan};
+ghost use Rattle.sheets.specs.PlanSheet.{planEnd, planOf, planIn, planCountsFault, planHeadFault, planBodyFault, planRefused, readPlan, planFits, planRecordFault, planCountFields, planFields, planSheet, writePlan};
 use crate::Plan;
 use crate::PlanRead;
 use crate::Reading;
@@ -24,8 +24,8 @@ use basics::or_else;
 use basics::within;
 
 // N or K is outside its limit.
-fn sizes_fault(n: u16, k: u16) -> u32
-    ensures { λ r. ⌜ r ≡ sizesFault n k ⌝ }
+fn plan_counts_fault(n: u16, k: u16) -> u32
+    ensures { λ r. ⌜ r ≡ planCountsFault n k ⌝ }
 {
     fault_unless((n <= MAX_OPS) & (k <= MAX_INSTS), basics::OUTSIDE_LIMIT)
 }
@@ -34,7 +34,7 @@ fn sizes_fault(n: u16, k: u16) -> u32
 fn plan_end(n: u16, k: u16) -> usize
     ensures { λ r. ⌜ r ≡ planEnd n k ⌝ }
 {
-    PLAN_HEAD + MARK_BITS * (k as usize) + ROW_BITS * (n as usize)
+    PLAN_HEAD + SELECT_BITS * (k as usize) + ROW_BITS * (n as usize)
 }
 
 // The first fault of the sheet's header.
@@ -43,7 +43,7 @@ fn plan_head_fault(s: &[u8]) -> u32
 {
     let n = bits::field(s, N_AT, OP_BITS) as u16;
     let k = bits::field(s, K_AT, INST_COUNT_BITS) as u16;
-    let rest = or_else(runs_out(s.len(), PLAN_HEAD), sizes_fault(n, k));
+    let rest = or_else(runs_out(s.len(), PLAN_HEAD), plan_counts_fault(n, k));
     or_else(form_fault(s, PLAN_FORM), rest)
 }
 
@@ -60,11 +60,11 @@ fn plan_of(s: &[u8], n: usize, k: usize) -> Plan
     requires { ⌜ (n ≤ maxOps) × (k ≤ maxInsts) ⌝ }
     ensures { λ r. ⌜ r ≡ planOf (now (s .entry)) n k ⌝ }
 {
-    let rows = PLAN_HEAD + MARK_BITS * k;
+    let rows = PLAN_HEAD + SELECT_BITS * k;
     Plan {
         n: n as u16,
         k: k as u16,
-        selection: inst_column(s, PLAN_HEAD, MARK_BITS, MARK_BITS, k),
+        selection: inst_column(s, PLAN_HEAD, SELECT_BITS, SELECT_BITS, k),
         starts: op_column(s, rows, ROW_BITS, STEP_BITS, n),
         insts: op_column(s, rows + STEP_BITS, ROW_BITS, INST_BITS, n),
     }
@@ -127,7 +127,7 @@ fn plan_fits(p: Plan) -> bool
     let insts = p.insts;
     let n = p.n as usize;
     let k = p.k as usize;
-    within(&selection, MAX_MARK, k)
+    within(&selection, MAX_SELECT, k)
         & within(&starts, MAX_STEPS, n)
         & within(&insts, MAX_INST, n)
         & blank(&selection, k)
@@ -140,15 +140,15 @@ fn plan_record_fault(p: Plan) -> u32
     ensures { λ r. ⌜ r ≡ planRecordFault p ⌝ }
 {
     or_else(
-        sizes_fault(p.n, p.k),
+        plan_counts_fault(p.n, p.k),
         fault_unless(plan_fits(p), basics::RECORD_BROKEN),
     )
 }
 
 // Puts form, N and K.
-fn put_sizes(out: &mut [u8], n: u16, k: u16)
+fn put_plan_counts(out: &mut [u8], n: u16, k: u16)
     requires { ⌜ (n ≤ maxOps) × (k ≤ maxInsts) × (planHead ≤ 8 * length (now out)) ⌝ }
-    ensures { λ _. ⌜ now (out .exit) ≡ putAll (now (out .entry)) 0 (sizeFields n k) ⌝ }
+    ensures { λ _. ⌜ now (out .exit) ≡ putAll (now (out .entry)) 0 (planCountFields n k) ⌝ }
 {
     bits::put(out, 0, FORM_BITS, PLAN_FORM);
     bits::put(out, N_AT, OP_BITS, n as u32);
@@ -165,11 +165,11 @@ fn put_plan(out: &mut [u8], p: Plan)
     let insts = p.insts;
     let n = p.n as usize;
     let k = p.k as usize;
-    put_sizes(out, p.n, p.k);
-    put_singles(out, PLAN_HEAD, MARK_BITS, &selection, k);
+    put_plan_counts(out, p.n, p.k);
+    put_singles(out, PLAN_HEAD, SELECT_BITS, &selection, k);
     put_doubles(
         out,
-        PLAN_HEAD + MARK_BITS * k,
+        PLAN_HEAD + SELECT_BITS * k,
         STEP_BITS,
         &starts,
         INST_BITS,

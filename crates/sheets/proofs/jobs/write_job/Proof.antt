@@ -17,14 +17,14 @@ use mir.Val.{Fits}
 use Rattle.sheets.proofs.jobs.write_job.Statement.{statement}
 use Rattle.sheets.proofs.jobs.write_job.Tie as tie
 
-record-fault-requires : tie.Need-record-fault-requires
-record-fault-requires c κs = search needs
+job-record-fault-requires : tie.Need-job-record-fault-requires
+job-record-fault-requires c κs = search needs
 
 returns : tie.Need-returns
 unfolding writeJob
 returns c =
     let a = c .before .before .before .args in
-    writes-fault _ _ _ (jobSheet (a .job)) (now (a .out)) _ (c .before .record-fault .ensures) (c .if1 .taken)
+    writes-fault _ _ _ (jobSheet (a .job)) (now (a .out)) _ (c .before .job-record-fault .ensures) (c .if1 .taken)
 
 job-end-requires : tie.Need-job-end-requires
 job-end-requires c κs = search needs
@@ -40,12 +40,12 @@ returns-2 c =
     let b5 = b3 .before .before in
     let a = b5 .args in
     let j = a .job in
-    let z = sym (b3 .record-fault .ensures) ∙ b2 .if1 .left in
+    let z = sym (b3 .job-record-fault .ensures) ∙ b2 .if1 .left in
     let s : length (now (a .out)) < bytesFor (jobEnd (j .n) (j .e) (j .m)) = rw (← c .before .job-end .ensures) (c .if2 .taken) in
     writes-short _ _ _ (jobSheet j) (now (a .out)) z s
 
-put-head-requires : tie.Need-put-head-requires
-put-head-requires c κs = search needs
+put-job-head-requires : tie.Need-put-job-head-requires
+put-job-head-requires c κs = search needs
 
 put-graph-requires : tie.Need-put-graph-requires
 put-graph-requires c κs = search needs
@@ -66,7 +66,7 @@ put-requires c κs =
     let b11 = b7 .before .before .before .before in
     let b14 = b11 .before .before .before in
     let e = b14 .job-end .ensures in
-    (omega arith, rw (b3 .put-units .kept .0, b7 .put-graph .kept .0, b11 .put-head .kept .0) (omega arith), pow-pos _)
+    (omega arith, rw (b3 .put-units .kept .0, b7 .put-graph .kept .0, b11 .put-job-head .kept .0) (omega arith), pow-pos _)
 
 cast-t18 : tie.Need-cast-t18
 cast-t18 c = search needs
@@ -88,24 +88,24 @@ returns-3 c =
     let s = b20 .before in
     let a = s .args in
     let j = a .job in
-    let z = sym (b19 .record-fault .ensures) ∙ b18 .if1 .left in
+    let z = sym (b19 .job-record-fault .ensures) ∙ b18 .if1 .left in
     let e = b17 .job-end .ensures in
     let l : bytesFor (jobEnd (j .n) (j .e) (j .m)) ≤ length (now (a .out)) = omega arith in
     let k : (y : ℕ) → Fits w16 (cell (j .costs) y) = λ y. search (needs, s .good .0 .1 .1 .1 .1 .1 .1 .1 .1 .1 .1 .1 .0) in
     rw e (writes-sheet _ _ _ (jobSheet j) (now (a .out)) _ z l
-    (rw (b2 .put .ensures, b6 .put-units .ensures, b10 .put-graph .ensures, b14 .put-head .ensures, e)
+    (rw (b2 .put .ensures, b6 .put-units .ensures, b10 .put-graph .ensures, b14 .put-job-head .ensures, e)
     (put-job j (none-record j z) (λ y. k y .fits) (now (a .out)) (λ i. b20 .slice-known .given i .fits) l)))
 
 pub write-job-spec : {M : Type 1} → statement M
 write-job-spec =
     tie.close
     (tie.spec
-    record-fault-requires
+    job-record-fault-requires
     returns
     job-end-requires
     add-length
     returns-2
-    put-head-requires
+    put-job-head-requires
     put-graph-requires
     put-units-requires
     mul-put

@@ -19,8 +19,8 @@ cast-k c = search needs
 runs-out-requires : tie.Need-runs-out-requires
 runs-out-requires c κs = search needs
 
-sizes-fault-requires : tie.Need-sizes-fault-requires
-sizes-fault-requires c κs = search needs
+plan-counts-fault-requires : tie.Need-plan-counts-fault-requires
+plan-counts-fault-requires c κs = search needs
 
 or-else-requires : tie.Need-or-else-requires
 or-else-requires c κs = search needs
@@ -39,7 +39,7 @@ returns c =
     let b4 = b3 .before in
     let b5 = b4 .before in
     let b6 = b5 .before in
-    simp (c .or-else2 .ensures, c .before .form-fault .ensures, b2 .or-else .ensures, b3 .sizes-fault .ensures, b4 .runs-out .ensures, b5 .field2 .ensures .0, b6 .field .ensures .0)
+    simp (c .or-else2 .ensures, c .before .form-fault .ensures, b2 .or-else .ensures, b3 .plan-counts-fault .ensures, b4 .runs-out .ensures, b5 .field2 .ensures .0, b6 .field .ensures .0)
 
 pub plan-head-fault-spec : {M : Type 1} → statement M
 plan-head-fault-spec =
@@ -50,7 +50,7 @@ plan-head-fault-spec =
     field-requires-2
     cast-k
     runs-out-requires
-    sizes-fault-requires
+    plan-counts-fault-requires
     or-else-requires
     form-fault-requires
     or-else-requires-2

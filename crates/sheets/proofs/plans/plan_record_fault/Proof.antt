@@ -4,8 +4,8 @@ use Rattle.sheets.specs.PlanSheet.{planRecordFault}
 use Rattle.sheets.proofs.plans.plan_record_fault.Statement.{statement}
 use Rattle.sheets.proofs.plans.plan_record_fault.Tie as tie
 
-sizes-fault-requires : tie.Need-sizes-fault-requires
-sizes-fault-requires c κs = search needs
+plan-counts-fault-requires : tie.Need-plan-counts-fault-requires
+plan-counts-fault-requires c κs = search needs
 
 plan-fits-requires : tie.Need-plan-fits-requires
 plan-fits-requires c κs = search needs
@@ -18,13 +18,13 @@ or-else-requires c κs = search needs
 
 returns : tie.Need-returns
 unfolding planRecordFault
-returns c = simp (c .or-else .ensures, c .before .fault-unless .ensures, c .before .before .plan-fits .ensures, c .before .before .before .sizes-fault .ensures)
+returns c = simp (c .or-else .ensures, c .before .fault-unless .ensures, c .before .before .plan-fits .ensures, c .before .before .before .plan-counts-fault .ensures)
 
 pub plan-record-fault-spec : {M : Type 1} → statement M
 plan-record-fault-spec =
     tie.close
     (tie.spec
-    sizes-fault-requires
+    plan-counts-fault-requires
     plan-fits-requires
     fault-unless-requires
     or-else-requires

@@ -6,8 +6,8 @@ use Rattle.bits.proofs.SheetLaws.{put-append}
 use Rattle.bits.specs.Sheet.{many, putAll}
 use Rattle.sheets.proofs.PlanFieldLaws.{none-plan, total-marks, marks-fit, starts-fit, rows-fit}
 use Rattle.sheets.specs.Columns.{single, double}
-use Rattle.sheets.specs.Limits.{markBits, stepBits, instBits, planHead}
-use Rattle.sheets.specs.PlanSheet.{sizeFields}
+use Rattle.sheets.specs.Limits.{selectBits, stepBits, instBits, planHead}
+use Rattle.sheets.specs.PlanSheet.{planCountFields}
 use Rattle.sheets.proofs.plans.put_plan.Statement.{statement}
 use Rattle.sheets.proofs.plans.put_plan.Tie as tie
 
@@ -17,8 +17,8 @@ cast-n c = search needs
 cast-k : tie.Need-cast-k
 cast-k c = search needs
 
-put-sizes-requires : tie.Need-put-sizes-requires
-put-sizes-requires c κs =
+put-plan-counts-requires : tie.Need-put-plan-counts-requires
+put-plan-counts-requires c κs =
     let s = c .before .before .before .before .before .before .before in
     let k = none-plan (s .args .p) (s .pre .0) in
     (k .ops, k .insts, omega (arith, s .pre .1))
@@ -32,7 +32,7 @@ put-singles-requires c κs =
     let s = b4 .before .before .before .before .before .before .before .before in
     let k = none-plan (s .args .p) (s .pre .0) in
     let n = k .insts in
-    (omega arith, omega arith, omega arith, rw (b4 .put-sizes .kept .0) (omega (arith, s .pre .1)), marks-fit (s .args .p) k)
+    (omega arith, omega arith, omega arith, rw (b4 .put-plan-counts .kept .0) (omega (arith, s .pre .1)), marks-fit (s .args .p) k)
 
 mul-put-doubles : tie.Need-mul-put-doubles
 mul-put-doubles c = search needs
@@ -59,7 +59,7 @@ put-doubles-requires c κs =
       omega arith,
       omega arith,
       omega arith,
-      rw (b5 .put-singles .kept .0, b10 .put-sizes .kept .0) (omega (arith, s .pre .1)),
+      rw (b5 .put-singles .kept .0, b10 .put-plan-counts .kept .0) (omega (arith, s .pre .1)),
       starts-fit (s .args .p) k,
       rows-fit (s .args .p) k,
     )
@@ -76,9 +76,9 @@ returns c =
     let b21 = b13 .before .before .before .before .before .before .before .before in
     let a = b21 .args in
     let p = a .p in
-    let marks = many (single markBits (p .selection)) (p .k) in
+    let marks = many (single selectBits (p .selection)) (p .k) in
     let rows = many (double stepBits (p .starts) instBits (p .insts) 0) (p .n) in
-    rw (b2 .put-doubles .ensures, b8 .put-singles .ensures, b13 .put-sizes .ensures, put-append (putAll (now (a .out)) 0 (sizeFields (p .n) (p .k))) planHead marks rows, total-marks p)
+    rw (b2 .put-doubles .ensures, b8 .put-singles .ensures, b13 .put-plan-counts .ensures, put-append (putAll (now (a .out)) 0 (planCountFields (p .n) (p .k))) planHead marks rows, total-marks p)
 
 pub put-plan-spec : {M : Type 1} → statement M
 put-plan-spec =
@@ -86,7 +86,7 @@ put-plan-spec =
     (tie.spec
     cast-n
     cast-k
-    put-sizes-requires
+    put-plan-counts-requires
     slice-aggregate-put-singles
     put-singles-requires
     mul-put-doubles

@@ -1,8 +1,8 @@
 -- The calls join as the definition does.
 use borrow.Author.Needs.{needs}
-use Rattle.sheets.specs.JobSheet.{bodyFault}
-use Rattle.sheets.proofs.jobs.body_fault.Statement.{statement}
-use Rattle.sheets.proofs.jobs.body_fault.Tie as tie
+use Rattle.sheets.specs.JobSheet.{jobBodyFault}
+use Rattle.sheets.proofs.jobs.job_body_fault.Statement.{statement}
+use Rattle.sheets.proofs.jobs.job_body_fault.Tie as tie
 
 cast-links : tie.Need-cast-links
 cast-links c = search needs
@@ -31,8 +31,8 @@ mul-end-2 c = search needs
 add-end-2 : tie.Need-add-end-2
 add-end-2 c = search needs
 
-tables-fault-requires : tie.Need-tables-fault-requires
-tables-fault-requires c κs = search needs
+job-tables-fault-requires : tie.Need-job-tables-fault-requires
+job-tables-fault-requires c κs = search needs
 
 fill-fault-requires : tie.Need-fill-fault-requires
 fill-fault-requires c κs = search needs
@@ -47,15 +47,15 @@ or-else-requires-2 : tie.Need-or-else-requires-2
 or-else-requires-2 c κs = search needs
 
 returns : tie.Need-returns
-unfolding bodyFault
+unfolding jobBodyFault
 returns c =
     let b2 = c .before .before in
     let b3 = b2 .before in
     let b4 = b3 .before in
-    simp (c .or-else2 .ensures, c .before .runs-out .ensures, b2 .or-else .ensures, b3 .fill-fault .ensures, b4 .tables-fault .ensures)
+    simp (c .or-else2 .ensures, c .before .runs-out .ensures, b2 .or-else .ensures, b3 .fill-fault .ensures, b4 .job-tables-fault .ensures)
 
-pub body-fault-spec : {M : Type 1} → statement M
-body-fault-spec =
+pub job-body-fault-spec : {M : Type 1} → statement M
+job-body-fault-spec =
     tie.close
     (tie.spec
     cast-links
@@ -67,7 +67,7 @@ body-fault-spec =
     cast-end-2
     mul-end-2
     add-end-2
-    tables-fault-requires
+    job-tables-fault-requires
     fill-fault-requires
     or-else-requires
     runs-out-requires

@@ -1,8 +1,8 @@
 -- One put after another, as the definition says.
 use borrow.Author.Needs.{needs}
 use Rattle.bits.specs.Sheet.{putAll}
-use Rattle.sheets.proofs.plans.put_sizes.Statement.{statement}
-use Rattle.sheets.proofs.plans.put_sizes.Tie as tie
+use Rattle.sheets.proofs.jobs.put_job_counts.Statement.{statement}
+use Rattle.sheets.proofs.jobs.put_job_counts.Tie as tie
 
 put-requires : tie.Need-put-requires
 put-requires c κs = search needs
@@ -13,6 +13,9 @@ put-requires-2 c κs = search needs
 put-requires-3 : tie.Need-put-requires-3
 put-requires-3 c κs = search needs
 
+put-requires-4 : tie.Need-put-requires-4
+put-requires-4 c κs = search needs
+
 same-length : tie.Need-same-length
 same-length c = search needs
 
@@ -22,8 +25,10 @@ returns c =
     let b2 = c .before .before in
     let b6 = b2 .before .before .before .before in
     let b10 = b6 .before .before .before .before in
-    rw (b2 .put3 .ensures, b6 .put2 .ensures, b10 .put .ensures)
+    let b14 = b10 .before .before .before .before in
+    rw (b2 .put4 .ensures, b6 .put3 .ensures, b10 .put2 .ensures, b14 .put .ensures)
 
-pub put-sizes-spec : {M : Type 1} → statement M
-put-sizes-spec =
-    tie.close (tie.spec put-requires put-requires-2 put-requires-3 same-length returns)
+pub put-job-counts-spec : {M : Type 1} → statement M
+put-job-counts-spec =
+    tie.close
+    (tie.spec put-requires put-requires-2 put-requires-3 put-requires-4 same-length returns)

@@ -1,8 +1,8 @@
 -- The calls join as the definition does.
 use borrow.Author.Needs.{needs}
-use Rattle.sheets.specs.JobSheet.{tablesFault}
-use Rattle.sheets.proofs.jobs.tables_fault.Statement.{statement}
-use Rattle.sheets.proofs.jobs.tables_fault.Tie as tie
+use Rattle.sheets.specs.JobSheet.{jobTablesFault}
+use Rattle.sheets.proofs.jobs.job_tables_fault.Statement.{statement}
+use Rattle.sheets.proofs.jobs.job_tables_fault.Tie as tie
 
 cast-at : tie.Need-cast-at
 cast-at c = search needs
@@ -53,11 +53,11 @@ or-else-requires : tie.Need-or-else-requires
 or-else-requires c κs = search needs
 
 returns : tie.Need-returns
-unfolding tablesFault
+unfolding jobTablesFault
 returns c = simp (c .or-else .ensures, c .before .types-fault .ensures, c .before .before .before .before .before .links-fault .ensures)
 
-pub tables-fault-spec : {M : Type 1} → statement M
-tables-fault-spec =
+pub job-tables-fault-spec : {M : Type 1} → statement M
+job-tables-fault-spec =
     tie.close
     (tie.spec
     cast-at

@@ -1,8 +1,8 @@
 -- One put after another, as the definition says.
 use borrow.Author.Needs.{needs}
 use Rattle.bits.specs.Sheet.{putAll}
-use Rattle.sheets.proofs.jobs.put_times.Statement.{statement}
-use Rattle.sheets.proofs.jobs.put_times.Tie as tie
+use Rattle.sheets.proofs.jobs.put_job_times.Statement.{statement}
+use Rattle.sheets.proofs.jobs.put_job_times.Tie as tie
 
 put-requires : tie.Need-put-requires
 put-requires c κs = search needs
@@ -24,6 +24,6 @@ returns c =
     let b10 = b6 .before .before .before .before in
     rw (b2 .put3 .ensures, b6 .put2 .ensures, b10 .put .ensures)
 
-pub put-times-spec : {M : Type 1} → statement M
-put-times-spec =
+pub put-job-times-spec : {M : Type 1} → statement M
+put-job-times-spec =
     tie.close (tie.spec put-requires put-requires-2 put-requires-3 same-length returns)

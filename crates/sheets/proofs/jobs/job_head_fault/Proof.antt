@@ -1,8 +1,8 @@
 -- The calls join as the definition does.
 use borrow.Author.Needs.{needs}
-use Rattle.sheets.specs.JobSheet.{headFault}
-use Rattle.sheets.proofs.jobs.head_fault.Statement.{statement}
-use Rattle.sheets.proofs.jobs.head_fault.Tie as tie
+use Rattle.sheets.specs.JobSheet.{jobHeadFault}
+use Rattle.sheets.proofs.jobs.job_head_fault.Statement.{statement}
+use Rattle.sheets.proofs.jobs.job_head_fault.Tie as tie
 
 field-requires : tie.Need-field-requires
 field-requires c κs = search needs
@@ -31,8 +31,8 @@ cast-clock c = search needs
 runs-out-requires : tie.Need-runs-out-requires
 runs-out-requires c κs = search needs
 
-counts-fault-requires : tie.Need-counts-fault-requires
-counts-fault-requires c κs = search needs
+job-counts-fault-requires : tie.Need-job-counts-fault-requires
+job-counts-fault-requires c κs = search needs
 
 or-else-requires : tie.Need-or-else-requires
 or-else-requires c κs = search needs
@@ -44,7 +44,7 @@ or-else-requires-2 : tie.Need-or-else-requires-2
 or-else-requires-2 c κs = search needs
 
 returns : tie.Need-returns
-unfolding headFault
+unfolding jobHeadFault
 returns c =
     let b2 = c .before .before in
     let b3 = b2 .before in
@@ -53,10 +53,10 @@ returns c =
     let b6 = b5 .before in
     let b7 = b6 .before in
     let b8 = b7 .before in
-    simp (c .or-else2 .ensures, c .before .form-fault .ensures, b2 .or-else .ensures, b3 .counts-fault .ensures, b4 .runs-out .ensures, b5 .field4 .ensures .0, b6 .field3 .ensures .0, b7 .field2 .ensures .0, b8 .field .ensures .0)
+    simp (c .or-else2 .ensures, c .before .form-fault .ensures, b2 .or-else .ensures, b3 .job-counts-fault .ensures, b4 .runs-out .ensures, b5 .field4 .ensures .0, b6 .field3 .ensures .0, b7 .field2 .ensures .0, b8 .field .ensures .0)
 
-pub head-fault-spec : {M : Type 1} → statement M
-head-fault-spec =
+pub job-head-fault-spec : {M : Type 1} → statement M
+job-head-fault-spec =
     tie.close
     (tie.spec
     field-requires
@@ -68,7 +68,7 @@ head-fault-spec =
     field-requires-4
     cast-clock
     runs-out-requires
-    counts-fault-requires
+    job-counts-fault-requires
     or-else-requires
     form-fault-requires
     or-else-requires-2

@@ -1,8 +1,8 @@
 -- One put after another, as the definition says.
 use borrow.Author.Needs.{needs}
 use Rattle.bits.specs.Sheet.{putAll}
-use Rattle.sheets.proofs.jobs.put_counts.Statement.{statement}
-use Rattle.sheets.proofs.jobs.put_counts.Tie as tie
+use Rattle.sheets.proofs.plans.put_plan_counts.Statement.{statement}
+use Rattle.sheets.proofs.plans.put_plan_counts.Tie as tie
 
 put-requires : tie.Need-put-requires
 put-requires c κs = search needs
@@ -13,9 +13,6 @@ put-requires-2 c κs = search needs
 put-requires-3 : tie.Need-put-requires-3
 put-requires-3 c κs = search needs
 
-put-requires-4 : tie.Need-put-requires-4
-put-requires-4 c κs = search needs
-
 same-length : tie.Need-same-length
 same-length c = search needs
 
@@ -25,10 +22,8 @@ returns c =
     let b2 = c .before .before in
     let b6 = b2 .before .before .before .before in
     let b10 = b6 .before .before .before .before in
-    let b14 = b10 .before .before .before .before in
-    rw (b2 .put4 .ensures, b6 .put3 .ensures, b10 .put2 .ensures, b14 .put .ensures)
+    rw (b2 .put3 .ensures, b6 .put2 .ensures, b10 .put .ensures)
 
-pub put-counts-spec : {M : Type 1} → statement M
-put-counts-spec =
-    tie.close
-    (tie.spec put-requires put-requires-2 put-requires-3 put-requires-4 same-length returns)
+pub put-plan-counts-spec : {M : Type 1} → statement M
+put-plan-counts-spec =
+    tie.close (tie.spec put-requires put-requires-2 put-requires-3 same-length returns)
