@@ -37,10 +37,10 @@ went a b r z e = e ∙ sym (orElse-go a b z)
 
 -- ---- the fault of a test
 
-pub unless-none : (test : Bool) (k : ℕ) → faultUnless test (suc k) ≡ 0 → test ≡ true
+pub unless-none : (test : Bool) (number : ℕ) → 0 < number → faultUnless test number ≡ 0 → test ≡ true
 unfolding faultUnless
-unless-none true k h = refl
-unless-none false k h = absurd (omega arith)
+unless-none true number l h = refl
+unless-none false number l h = absurd (omega arith)
 
 pub none-unless : (test : Bool) (k : ℕ) → test ≡ true → faultUnless test k ≡ 0
 unfolding faultUnless

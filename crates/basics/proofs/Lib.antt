@@ -1,3 +1,4 @@
+pub mod AnswerLaws
 pub mod CountLaws
 pub mod TableLaws
 pub mod FaultLaws

@@ -23,7 +23,7 @@ typeBroken = 5
 abbrev pub fillBroken : ℕ
 fillBroken = 6
 
--- a record's number too wide for its field, or an unused cell not zero
+-- of a record: T, wire, a kind, a selection cell or a row's number too wide for its field, or an unused cell not zero
 abbrev pub recordBroken : ℕ
 recordBroken = 7
 

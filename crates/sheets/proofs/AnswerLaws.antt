@@ -1,4 +1,4 @@
--- Laws of answers: how a writer comes to keep its promise, what follows from one kept, and that a promise leaves one answer.
+-- Laws of answers: how a writer comes to keep its promise, and what follows from one kept.
 use Prim.Native.Nat.{ℕ, zero, suc, _≤_, _<_}
 use mathlib.Core.Path.{_≡_, refl, sym, _∙_}
 use mathlib.Core.Bool.{Bool, true, false}
@@ -8,8 +8,9 @@ use borrow.Author.Tests.{le-leb, lt-leb}
 use lib.Dec.{leb}
 use lib.ListN.{length, take, drop}
 use lib.Seq.{take-at}
+use Rattle.basics.specs.Answers.{Promise}
 use Rattle.basics.specs.Numbers.{outputShort, paperRequest}
-use Rattle.sheets.specs.Answers.{ifRoom, written, output, Writes}
+use Rattle.sheets.specs.Answers.{ifRoom, written, output}
 use Rattle.sheets.specs.declared.Written.{Written}
 use Rattle.sheets.specs.declared.Written.the-variants.{Wrote, Refused}
 
@@ -17,17 +18,17 @@ use Rattle.sheets.specs.declared.Written.the-variants.{Wrote, Refused}
 module _ (fault paper size : ℕ) (sheet out : List ℕ) where
   -- ---- a writer's three ways
 
-  pub writes-fault : (k : ℕ) → k ≡ fault → (k ≡ 0 → ⊥) → Writes (written fault paper size (length out)) sheet out (Refused k paper) out
+  pub writes-fault : (k : ℕ) → k ≡ fault → (k ≡ 0 → ⊥) → Promise (written fault paper size (length out)) (output (written fault paper size (length out)) sheet out) (Refused k paper) out
   unfolding written output
   writes-fault zero e q = absurd (q refl)
   writes-fault (suc k) e q = rw (← e) (record { told = refl; bytes = refl })
 
-  pub writes-short : fault ≡ 0 → length out < size → Writes (written fault paper size (length out)) sheet out (Refused outputShort paperRequest) out
+  pub writes-short : fault ≡ 0 → length out < size → Promise (written fault paper size (length out)) (output (written fault paper size (length out)) sheet out) (Refused outputShort paperRequest) out
   unfolding written ifRoom output
   writes-short e h = rw (e, lt-leb size (length out) h) (record { told = refl; bytes = refl })
 
   pub writes-sheet : (after : List ℕ) → fault ≡ 0 → size ≤ length out → after ≡ sheet ++ drop size out
-      → Writes (written fault paper size (length out)) sheet out (Wrote size) after
+      → Promise (written fault paper size (length out)) (output (written fault paper size (length out)) sheet out) (Wrote size) after
   unfolding written ifRoom output
   writes-sheet after e h w = rw (e, le-leb size (length out) h) (record { told = refl; bytes = w })
 
@@ -45,7 +46,7 @@ module _ (fault paper size : ℕ) (sheet out : List ℕ) where
       go (suc k) b p q e = absurd (let w : Wrote n ≡ Refused (suc k) paper = e ∙ rw p in let z : _≡_ {A = ℕ} 0 1 = cc in omega arith)
 
   -- and the sheet stands in front
-  pub wrote-sheet : (n : ℕ) (after : List ℕ) → length sheet ≡ size → Writes (written fault paper size (length out)) sheet out (Wrote n) after
+  pub wrote-sheet : (n : ℕ) (after : List ℕ) → length sheet ≡ size → Promise (written fault paper size (length out)) (output (written fault paper size (length out)) sheet out) (Wrote n) after
       → (fault ≡ 0) × (take n after ≡ sheet)
   unfolding output
   wrote-sheet n after l w =
@@ -54,17 +55,8 @@ module _ (fault paper size : ℕ) (sheet out : List ℕ) where
 
   -- without fault and with room the sheet is written
   pub sheet-wrote : (r : Written) (after : List ℕ) → fault ≡ 0 → length sheet ≡ size → length sheet ≤ length out
-      → Writes (written fault paper size (length out)) sheet out r after → (r ≡ Wrote (length sheet)) × (after ≡ sheet ++ drop (length sheet) out)
+      → Promise (written fault paper size (length out)) (output (written fault paper size (length out)) sheet out) r after → (r ≡ Wrote (length sheet)) × (after ≡ sheet ++ drop (length sheet) out)
   unfolding written ifRoom output
   sheet-wrote r after e l h w =
       let q : leb (length sheet) (length out) ≡ true = le-leb (length sheet) (length out) h in
       (rw (e, ← l, q) at (w .told), rw (e, ← l, q) at (w .bytes))
-
--- ---- one answer
-
-pub one-answer : {A : Type 0} (answer r r' : A) → r ≡ answer → r' ≡ answer → r ≡ r'
-one-answer answer r r' e e' = e ∙ sym e'
-
-pub one-output : (answer : Written) (sheet out : List ℕ) (r r' : Written) (after after' : List ℕ)
-    → Writes answer sheet out r after → Writes answer sheet out r' after' → (r ≡ r') × (after ≡ after')
-one-output answer sheet out r r' after after' w w' = (w .told ∙ sym (w' .told), w .bytes ∙ sym (w' .bytes))

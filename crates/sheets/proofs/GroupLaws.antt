@@ -5,8 +5,9 @@ use mathlib.Core.List.{List}
 use native.Mathlib.Decide.{decLt}
 use native.Mathlib.Omega.{arith}
 use borrow.Author.Tests.{le-leb, lt-leb, eqb-true, eq-eqb}
-use lib.Dec.{leb}
+use lib.Dec.{leb, lit<}
 use lib.ListN.{length}
+use Rattle.basics.specs.Numbers.{bitsRunOut, fillBroken, formDiffers}
 use Rattle.basics.proofs.CountLaws.{and-both, both-and}
 use Rattle.basics.proofs.FaultLaws.{unless-none, none-unless, orElse-none, none-orElse}
 use Rattle.bits.specs.Bits.{field}
@@ -26,23 +27,23 @@ bytes-bits bytes end = go (decLt (8 * bytes) end)
 
 pub whole-none : (bytes end : ℕ) → end ≤ 8 * bytes → runsOut bytes end ≡ 0
 unfolding runsOut
-whole-none bytes end h = none-unless _ 1 (le-leb _ _ h)
+whole-none bytes end h = none-unless _ bitsRunOut (le-leb _ _ h)
 
 module _ (s : List ℕ) where
   pub form-none : (form : ℕ) → field s 0 formBits ≡ form → formBits ≤ 8 * length s → formFault s form ≡ 0
   unfolding formFault
-  form-none form e h = none-orElse _ _ (whole-none (length s) formBits h) (none-unless _ 2 (eq-eqb _ _ e))
+  form-none form e h = none-orElse _ _ (whole-none (length s) formBits h) (none-unless _ formDiffers (eq-eqb _ _ e))
 
   pub none-form : (form : ℕ) → formFault s form ≡ 0 → field s 0 formBits ≡ form
   unfolding formFault
-  none-form form h = eqb-true _ _ (unless-none _ 1 (orElse-none _ _ h .1))
+  none-form form h = eqb-true _ _ (unless-none _ formDiffers (lit< tt) (orElse-none _ _ h .1))
 
   pub fill-none : (end : ℕ) → length s ≡ bytesFor end → field s end (fill end) ≡ 0 → fillFault s end ≡ 0
   unfolding fillFault
-  fill-none end l z = none-unless _ 6 (both-and _ _ (eq-eqb _ _ l) (eq-eqb _ _ z))
+  fill-none end l z = none-unless _ fillBroken (both-and _ _ (eq-eqb _ _ l) (eq-eqb _ _ z))
 
   pub none-fill : (end : ℕ) → fillFault s end ≡ 0 → (length s ≡ bytesFor end) × (field s end (fill end) ≡ 0)
   unfolding fillFault
   none-fill end h =
-      let b = and-both _ _ (unless-none _ 5 h) in
+      let b = and-both _ _ (unless-none _ fillBroken (lit< tt) h) in
       (eqb-true _ _ (b .0), eqb-true _ _ (b .1))

@@ -5,7 +5,8 @@ use mathlib.Core.Bool.{_&&_, _||_}
 use mathlib.Core.List.{List}
 use native.Mathlib.Omega.{arith}
 use borrow.Author.Tests.{leb-true}
-use lib.Dec.{ltb, eqb}
+use lib.Dec.{ltb, eqb, lit<}
+use Rattle.basics.specs.Numbers.{outsideLimit}
 use Rattle.basics.specs.Tables.{cell}
 use Rattle.basics.proofs.CountLaws.{and-both}
 use Rattle.basics.proofs.FaultLaws.{orElse-none, unless-none}
@@ -36,7 +37,7 @@ pub record Counts (n e m clock : ℕ) : Type 0 where
 pub none-counts : (n e m clock : ℕ) → jobCountsFault n e m clock ≡ 0 → Counts n e m clock
 unfolding jobCountsFault
 none-counts n e m clock h =
-    let a = and-both _ _ (unless-none _ 2 h) in
+    let a = and-both _ _ (unless-none _ outsideLimit (lit< tt) h) in
     let b = and-both _ _ (a .0) in
     let d = and-both _ _ (b .0) in
     let f = and-both _ _ (d .0) in

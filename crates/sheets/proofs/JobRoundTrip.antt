@@ -7,7 +7,8 @@ use mathlib.Core.List.{List, _++_}
 use native.Mathlib.Omega.{arith}
 use borrow.Author.Tests.{le-leb}
 use lib.ListN.{length, take, drop}
-use Rattle.basics.specs.Numbers.{paperJob}
+use Rattle.basics.specs.Answers.{Promise}
+use Rattle.basics.specs.Numbers.{paperJob, recordBroken}
 use Rattle.basics.specs.Tables.{cell, cells}
 use Rattle.basics.proofs.CountLaws.{both-and}
 use Rattle.basics.proofs.FaultLaws.{orElse-none, none-orElse, none-unless, orElse-go}
@@ -16,11 +17,10 @@ use Rattle.bits.specs.Bits.{Bytes, field}
 use Rattle.bits.specs.Sheet.{Field, total, bytesFor, fill, pack, many}
 use Rattle.bits.proofs.FieldLaws.{field-lt}
 use Rattle.bits.proofs.SheetLaws.{Holds, holds-pack, pack-holds, fill-pack, length-pack, holds-append, append-holds, holds-many, many-holds}
-use Rattle.sheets.specs.Limits.{jobForm, maxOps, maxLinks, maxTypes, pairCells, kindCount, maxKind, maxSteps, maxTime, opBits, stepBits, timeBits, kindBits, costBits, copiesBits, tAt, wireAt, jobHead, linkBits, pairBits, typeHead, typeBits}
-use Rattle.sheets.specs.Answers.{Writes}
+use Rattle.sheets.specs.Limits.{opCells, linkCells, typeCells, jobForm, pairCells, kindCount, maxKind, maxSteps, maxTime, opBits, stepBits, timeBits, kindBits, costBits, copiesBits, tAt, wireAt, jobHead, linkBits, pairBits, typeHead, typeBits}
 use Rattle.sheets.specs.Columns.{columnAt, pairAt, single, double}
 use Rattle.sheets.specs.JobRecord.{JobShape, graphBlank, unitsBlank, jobFits, jobRecordFault}
-use Rattle.sheets.specs.JobSheet.{linksAt, typesAt, jobEnd, nIn, eIn, mIn, clockIn, jobOf, jobIn, jobHeadFault, jobBodyFault, jobFault, jobAnswer, readJob, typeFields, graphFields, unitFields, jobFields, jobSheet, writeJob}
+use Rattle.sheets.specs.JobSheet.{linksAt, typesAt, jobEnd, nIn, eIn, mIn, clockIn, jobOf, jobIn, jobHeadFault, jobBodyFault, jobFault, jobAnswer, readJob, typeFields, graphFields, unitFields, jobFields, jobSheet, writeJob, jobOut}
 use Rattle.sheets.specs.declared.Job.{Job}
 use Rattle.sheets.specs.declared.JobRead.{JobRead}
 use Rattle.sheets.specs.declared.Reading.the-variants.{Read, Refused}
@@ -75,21 +75,21 @@ module _ (j : Job) (t : JobShape j) (z : jobRecordFault j ≡ 0) where
       holds-many (double timeBits (j .times) timeBits (j .intervals) (kindCount * y)) pairBits (total-double timeBits (j .times) timeBits (j .intervals) (kindCount * y))
       (jobSheet j) (typesAt (j .n) (j .e) + typeBits * y + costBits + copiesBits) kindCount (type-there y l .1 .1) k m
 
-  costs-there : cells (columnAt (jobSheet j) (typesAt (j .n) (j .e)) typeBits costBits) (j .m) maxTypes ≡ j .costs
+  costs-there : cells (columnAt (jobSheet j) (typesAt (j .n) (j .e)) typeBits costBits) (j .m) typeCells ≡ j .costs
   unfolding typeFields Holds
   costs-there =
-      cells-cong (columnAt (jobSheet j) (typesAt (j .n) (j .e)) typeBits costBits) (cell (j .costs)) (j .m) maxTypes (λ y l. type-there y l .0)
-      ∙ cells-blank (j .costs) (j .m) maxTypes (t .costs) (sound .counts .types) (sound .unusedCosts)
+      cells-cong (columnAt (jobSheet j) (typesAt (j .n) (j .e)) typeBits costBits) (cell (j .costs)) (j .m) typeCells (λ y l. type-there y l .0)
+      ∙ cells-blank (j .costs) (j .m) typeCells (t .costs) (sound .counts .types) (sound .unusedCosts)
 
-  copies-there : cells (columnAt (jobSheet j) (typesAt (j .n) (j .e) + costBits) typeBits copiesBits) (j .m) maxTypes ≡ j .copies
+  copies-there : cells (columnAt (jobSheet j) (typesAt (j .n) (j .e) + costBits) typeBits copiesBits) (j .m) typeCells ≡ j .copies
   unfolding typeFields Holds
   copies-there =
       let at : ℕ = typesAt (j .n) (j .e) in
-      cells-cong (columnAt (jobSheet j) (at + costBits) typeBits copiesBits) (cell (j .copies)) (j .m) maxTypes
+      cells-cong (columnAt (jobSheet j) (at + costBits) typeBits copiesBits) (cell (j .copies)) (j .m) typeCells
       (λ y l.
       let e : at + costBits + typeBits * y ≡ at + typeBits * y + costBits = omega arith in
       ap (λ (k : ℕ). field (jobSheet j) k copiesBits) e ∙ type-there y l .1 .0)
-      ∙ cells-blank (j .copies) (j .m) maxTypes (t .copies) (sound .counts .types) (sound .unusedCopies)
+      ∙ cells-blank (j .copies) (j .m) typeCells (t .copies) (sound .counts .types) (sound .unusedCopies)
 
   times-there : cells (pairAt (jobSheet j) (typesAt (j .n) (j .e) + typeHead)) (kindCount * j .m) pairCells ≡ j .times
   unfolding Holds
@@ -122,9 +122,9 @@ module _ (j : Job) (t : JobShape j) (z : jobRecordFault j ≡ 0) where
   job-there =
       let s : List ℕ = jobSheet j in
       let q = sound .counts in
-      let a = read-single s jobHead kindBits (j .n) maxOps (j .kinds) (t .kinds) (q .ops) (sound .unusedKinds) (kinds-links .0) in
-      let b = read-double s (linksAt (j .n)) opBits (j .e) maxLinks (j .from) (t .from) (q .links) (sound .unusedFrom) opBits (j .to) (kinds-links .1) in
-      let c = read-double' s (linksAt (j .n)) opBits (j .e) maxLinks (j .to) (t .to) (q .links) (sound .unusedTo) opBits (j .from) (kinds-links .1) in
+      let a = read-single s jobHead kindBits (j .n) opCells (j .kinds) (t .kinds) (q .ops) (sound .unusedKinds) (kinds-links .0) in
+      let b = read-double s (linksAt (j .n)) opBits (j .e) linkCells (j .from) (t .from) (q .links) (sound .unusedFrom) opBits (j .to) (kinds-links .1) in
+      let c = read-double' s (linksAt (j .n)) opBits (j .e) linkCells (j .to) (t .to) (q .links) (sound .unusedTo) opBits (j .from) (kinds-links .1) in
       λ i. record {
         n = j .n;
         e = j .e;
@@ -195,15 +195,15 @@ module _ (s : List ℕ) (z : jobFault s ≡ 0) where
       let at : ℕ = typesAt (nIn s) (eIn s) in
       let m : ℕ = mIn s in
       let few = counts .types in
-      let costs : List ℕ = cells (columnAt s at typeBits costBits) m maxTypes in
-      let copies : List ℕ = cells (columnAt s (at + costBits) typeBits copiesBits) m maxTypes in
+      let costs : List ℕ = cells (columnAt s at typeBits costBits) m typeCells in
+      let copies : List ℕ = cells (columnAt s (at + costBits) typeBits copiesBits) m typeCells in
       let times : List ℕ = cells (pairAt s (at + typeHead)) (kindCount * m) pairCells in
       let intervals : List ℕ = cells (pairAt s (at + typeHead + timeBits)) (kindCount * m) pairCells in
       many-holds (typeFields costs copies times intervals) typeBits (total-type costs copies times intervals) s at m (λ y l.
       let a : at + typeBits * y + costBits ≡ at + costBits + typeBits * y = omega arith in (
-        sym (cell-cells (columnAt s at typeBits costBits) m maxTypes y l few),
+        sym (cell-cells (columnAt s at typeBits costBits) m typeCells y l few),
         (
-          ap (λ (k : ℕ). field s k copiesBits) a ∙ sym (cell-cells (columnAt s (at + costBits) typeBits copiesBits) m maxTypes y l few),
+          ap (λ (k : ℕ). field s k copiesBits) a ∙ sym (cell-cells (columnAt s (at + costBits) typeBits copiesBits) m typeCells y l few),
           many-holds (double timeBits times timeBits intervals (kindCount * y)) pairBits (total-double timeBits times timeBits intervals (kindCount * y))
               s (at + typeBits * y + costBits + copiesBits) kindCount (λ k h.
               let c : ℕ = kindCount * y + k in
@@ -223,10 +223,10 @@ module _ (s : List ℕ) (z : jobFault s ≡ 0) where
   graph-spelt : Holds s jobHead (graphFields (jobIn s))
   unfolding jobOf
   graph-spelt =
-      let kinds : List ℕ = cells (columnAt s jobHead kindBits kindBits) (nIn s) maxOps in
+      let kinds : List ℕ = cells (columnAt s jobHead kindBits kindBits) (nIn s) opCells in
       let links : List Field = many (double opBits (jobIn s .from) opBits (jobIn s .to) 0) (eIn s) in
-      append-holds s jobHead (many (single kindBits kinds) (nIn s)) links (single-read s jobHead kindBits (nIn s) maxOps (counts .ops))
-      (subst (λ (k : ℕ). Holds s (jobHead + k) links) (sym (total-kinds (jobIn s))) (double-read s (linksAt (nIn s)) opBits opBits (eIn s) maxLinks (counts .links)))
+      append-holds s jobHead (many (single kindBits kinds) (nIn s)) links (single-read s jobHead kindBits (nIn s) opCells (counts .ops))
+      (subst (λ (k : ℕ). Holds s (jobHead + k) links) (sym (total-kinds (jobIn s))) (double-read s (linksAt (nIn s)) opBits opBits (eIn s) linkCells (counts .links)))
 
   spelt : Holds s 0 (jobFields (jobIn s))
   unfolding Holds jobHeadFault jobOf
@@ -268,17 +268,17 @@ module _ (s : List ℕ) (z : jobFault s ≡ 0) where
       let n : ℕ = nIn s in
       let e : ℕ = eIn s in
       let m : ℕ = mIn s in
-      let kinds = each-within (cells (columnAt s jobHead kindBits kindBits) n maxOps) maxKind n (λ i l.
-      rw (cell-cells (columnAt s jobHead kindBits kindBits) n maxOps i l (counts .ops)) (omega (arith, field-lt s (jobHead + kindBits * i) kindBits))) in
+      let kinds = each-within (cells (columnAt s jobHead kindBits kindBits) n opCells) maxKind n (λ i l.
+      rw (cell-cells (columnAt s jobHead kindBits kindBits) n opCells i l (counts .ops)) (omega (arith, field-lt s (jobHead + kindBits * i) kindBits))) in
       let steps = le-leb (field s tAt stepBits) maxSteps (omega (arith, field-lt s tAt stepBits)) in
       let wire = le-leb (field s wireAt timeBits) maxTime (omega (arith, field-lt s wireAt timeBits)) in
       let types : ℕ = typesAt n e in
       both-and _ _ (both-and _ _ (both-and _ _ (both-and _ _ steps wire) kinds)
-      (both-and _ _ (both-and _ _ (blank-cells (columnAt s jobHead kindBits kindBits) n maxOps)
-      (blank-cells (columnAt s (linksAt n) linkBits opBits) e maxLinks))
-      (blank-cells (columnAt s (linksAt n + opBits) linkBits opBits) e maxLinks)))
-      (both-and _ _ (both-and _ _ (both-and _ _ (blank-cells (columnAt s types typeBits costBits) m maxTypes)
-      (blank-cells (columnAt s (types + costBits) typeBits copiesBits) m maxTypes))
+      (both-and _ _ (both-and _ _ (blank-cells (columnAt s jobHead kindBits kindBits) n opCells)
+      (blank-cells (columnAt s (linksAt n) linkBits opBits) e linkCells))
+      (blank-cells (columnAt s (linksAt n + opBits) linkBits opBits) e linkCells)))
+      (both-and _ _ (both-and _ _ (both-and _ _ (blank-cells (columnAt s types typeBits costBits) m typeCells)
+      (blank-cells (columnAt s (types + costBits) typeBits copiesBits) m typeCells))
       (blank-cells (pairAt s (types + typeHead)) (kindCount * m) pairCells))
       (blank-cells (pairAt s (types + typeHead + timeBits)) (kindCount * m) pairCells))
 
@@ -288,7 +288,7 @@ module _ (s : List ℕ) (z : jobFault s ≡ 0) where
       let l = behind .0 in
       none-orElse _ _ (orElse-none _ _ (orElse-none _ _ heads .1) .1)
       (none-orElse _ _ (sym (tables-rules (jobIn s) (length s) (omega arith)) ∙ orElse-none _ _ (orElse-none _ _ bodies .1) .0)
-      (none-unless _ 7 fits-none))
+      (none-unless _ recordBroken fits-none))
 
 -- a sheet that is read has no fault
 read-job : (s : List ℕ) (j : Job) → readJob s ≡ record { answer = Read; job = j } → (jobFault s ≡ 0) × (j ≡ jobIn s)
@@ -299,7 +299,7 @@ read-job s j e = go (jobFault s) refl e
     go zero q e = (q, sym (ap (λ (r : JobRead). r .job) (rw q at e)))
     go (suc k) q e =
         absurd (
-        let w : Refused (suc k) 0 ≡ Read = ap (λ (r : JobRead). r .answer) (rw q at e) in
+        let w : Refused (suc k) paperJob ≡ Read = ap (λ (r : JobRead). r .answer) (rw q at e) in
         let c : _≡_ {A = ℕ} 0 1 = cc in
         omega arith)
 
@@ -311,17 +311,17 @@ job-written-read s j hs e =
 -- ---- the same of the entries' promises
 
 -- what the writer has written is read as the record
-pub job-read-output : (j : Job) → JobShape j → (before after : List ℕ) (size : ℕ) → Writes (writeJob j (length before)) (jobSheet j) before (Wrote size) after
+pub job-read-output : (j : Job) → JobShape j → (before after : List ℕ) (size : ℕ) → Promise (writeJob j (length before)) (jobOut j before) (Wrote size) after
     → readJob (take size after) ≡ record { answer = Read; job = j }
-unfolding writeJob
+unfolding writeJob jobOut
 job-read-output j t before after size w =
     let f = wrote-sheet (jobRecordFault j) paperJob (bytesFor (jobEnd (j .n) (j .e) (j .m))) (jobSheet j) before size after (sheet-length j) w in
     rw (f .1) (job-read-written j t (f .0))
 
 -- what the reader has read is written as the sheet, wherever it fits
 pub job-write-input : (s : List ℕ) (j : Job) (before after : List ℕ) (r : Written) → Bytes s → readJob s ≡ record { answer = Read; job = j }
-    → length s ≤ length before → Writes (writeJob j (length before)) (jobSheet j) before r after → (r ≡ Wrote (length s)) × (after ≡ s ++ drop (length s) before)
-unfolding writeJob
+    → length s ≤ length before → Promise (writeJob j (length before)) (jobOut j before) r after → (r ≡ Wrote (length s)) × (after ≡ s ++ drop (length s) before)
+unfolding writeJob jobOut
 job-write-input s j before after r hs e l w =
     let q = job-written-read s j hs e in
     let l' : length (jobSheet j) ≤ length before = rw (q .0) l in

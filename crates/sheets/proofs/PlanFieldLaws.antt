@@ -6,6 +6,7 @@ use mathlib.Core.List.{List, _++_}
 use native.Mathlib.Omega.{arith}
 use lib.Dec.{lit<}
 use lib.ListN.{length, drop}
+use Rattle.basics.specs.Numbers.{recordBroken}
 use Rattle.basics.specs.Tables.{cell, blank}
 use Rattle.basics.proofs.CountLaws.{and-both}
 use Rattle.basics.proofs.FaultLaws.{orElse-none, unless-none}
@@ -37,7 +38,7 @@ unfolding planRecordFault planFits
 none-plan p h =
     let r = orElse-none _ _ h in
     let s = none-sizes _ _ (r .0) in
-    let a = and-both _ _ (unless-none _ 6 (r .1)) in
+    let a = and-both _ _ (unless-none _ recordBroken (lit< tt) (r .1)) in
     let b = and-both _ _ (a .0) in
     let d = and-both _ _ (b .0) in
     let f = and-both _ _ (d .0) in

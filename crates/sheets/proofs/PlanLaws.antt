@@ -3,6 +3,8 @@ use Prim.Native.Nat.{ℕ, zero, suc, _≤_}
 use mathlib.Core.Path.{_≡_, refl}
 use mathlib.Core.List.{List}
 use borrow.Author.Tests.{leb-true}
+use lib.Dec.{lit<}
+use Rattle.basics.specs.Numbers.{outsideLimit}
 use Rattle.basics.proofs.CountLaws.{and-both}
 use Rattle.basics.proofs.FaultLaws.{orElse-none, unless-none}
 use Rattle.sheets.specs.Limits.{maxOps, maxInsts}
@@ -16,7 +18,7 @@ use Rattle.sheets.specs.declared.Reading.the-variants.{Read}
 pub none-sizes : (n k : ℕ) → planCountsFault n k ≡ 0 → (n ≤ maxOps) × (k ≤ maxInsts)
 unfolding planCountsFault
 none-sizes n k h =
-    let a = and-both _ _ (unless-none _ 2 h) in
+    let a = and-both _ _ (unless-none _ outsideLimit (lit< tt) h) in
     (leb-true _ _ (a .0), leb-true _ _ (a .1))
 
 pub head-sizes : (s : List ℕ) → planHeadFault s ≡ 0 → (opsIn s ≤ maxOps) × (instsIn s ≤ maxInsts)

@@ -6,7 +6,8 @@ use mathlib.Core.Bool.{true}
 use mathlib.Core.List.{List, _++_}
 use native.Mathlib.Omega.{arith}
 use lib.ListN.{length, take, drop}
-use Rattle.basics.specs.Numbers.{paperPlan}
+use Rattle.basics.specs.Answers.{Promise}
+use Rattle.basics.specs.Numbers.{paperPlan, recordBroken}
 use Rattle.basics.specs.Tables.{cells, within}
 use Rattle.basics.proofs.CountLaws.{both-and}
 use Rattle.basics.proofs.FaultLaws.{orElse-none, none-orElse, none-unless, orElse-go}
@@ -15,10 +16,9 @@ use Rattle.bits.specs.Bits.{Bytes, field}
 use Rattle.bits.specs.Sheet.{Field, bytesFor, fill, pack, many}
 use Rattle.bits.proofs.FieldLaws.{field-lt}
 use Rattle.bits.proofs.SheetLaws.{Holds, holds-pack, pack-holds, fill-pack, length-pack, holds-append, append-holds}
-use Rattle.sheets.specs.Limits.{planForm, maxOps, maxInsts, maxSelect, maxSteps, maxInst, selectBits, stepBits, instBits, rowBits, planHead}
-use Rattle.sheets.specs.Answers.{Writes}
+use Rattle.sheets.specs.Limits.{opCells, instCells, planForm, maxOps, maxInsts, maxSelect, maxSteps, maxInst, selectBits, stepBits, instBits, rowBits, planHead}
 use Rattle.sheets.specs.Columns.{columnAt, single, double}
-use Rattle.sheets.specs.PlanSheet.{PlanShape, rowsAt, planEnd, opsIn, instsIn, planOf, planIn, planCountsFault, planHeadFault, planBodyFault, planFault, planAnswer, readPlan, planFits, planRecordFault, planFields, planSheet, writePlan}
+use Rattle.sheets.specs.PlanSheet.{PlanShape, rowsAt, planEnd, opsIn, instsIn, planOf, planIn, planCountsFault, planHeadFault, planBodyFault, planFault, planAnswer, readPlan, planFits, planRecordFault, planFields, planSheet, writePlan, planOut}
 use Rattle.sheets.specs.declared.Plan.{Plan}
 use Rattle.sheets.specs.declared.PlanRead.{PlanRead}
 use Rattle.sheets.specs.declared.Reading.the-variants.{Read, Refused}
@@ -58,9 +58,9 @@ module _ (p : Plan) (t : PlanShape p) (z : planRecordFault p ≡ 0) where
   unfolding planOf
   plan-there =
       let s : List ℕ = planSheet p in
-      let a = read-single s planHead selectBits (p .k) maxInsts (p .selection) (t .selection) (sound .insts) (sound .unusedMarks) (tables .0) in
-      let b = read-double s (rowsAt (p .k)) stepBits (p .n) maxOps (p .starts) (t .starts) (sound .ops) (sound .unusedStarts) instBits (p .insts) (tables .1) in
-      let c = read-double' s (rowsAt (p .k)) instBits (p .n) maxOps (p .insts) (t .insts) (sound .ops) (sound .unusedRows) stepBits (p .starts) (tables .1) in
+      let a = read-single s planHead selectBits (p .k) instCells (p .selection) (t .selection) (sound .insts) (sound .unusedMarks) (tables .0) in
+      let b = read-double s (rowsAt (p .k)) stepBits (p .n) opCells (p .starts) (t .starts) (sound .ops) (sound .unusedStarts) instBits (p .insts) (tables .1) in
+      let c = read-double' s (rowsAt (p .k)) instBits (p .n) opCells (p .insts) (t .insts) (sound .ops) (sound .unusedRows) stepBits (p .starts) (tables .1) in
       λ i. record { n = p .n; k = p .k; selection = a i; starts = b i; insts = c i }
 
   plan-in : planIn (planSheet p) ≡ p
@@ -115,8 +115,8 @@ module _ (s : List ℕ) (z : planFault s ≡ 0) where
           refl,
           (
             refl,
-            append-holds s planHead marks rows (single-read s planHead selectBits (instsIn s) maxInsts (sizes .1))
-                (subst (λ (k : ℕ). Holds s (planHead + k) rows) (sym (total-marks (planIn s))) (double-read s (rowsAt (instsIn s)) stepBits instBits (opsIn s) maxOps (sizes .0))),
+            append-holds s planHead marks rows (single-read s planHead selectBits (instsIn s) instCells (sizes .1))
+                (subst (λ (k : ℕ). Holds s (planHead + k) rows) (sym (total-marks (planIn s))) (double-read s (rowsAt (instsIn s)) stepBits instBits (opsIn s) opCells (sizes .0))),
           ),
         ),
       )
@@ -137,14 +137,14 @@ module _ (s : List ℕ) (z : planFault s ≡ 0) where
   record-none =
       let n : ℕ = opsIn s in
       let k : ℕ = instsIn s in
-      let a = small planHead selectBits selectBits k maxInsts maxSelect (sizes .1) (λ i. omega (arith, field-lt s (planHead + selectBits * i) selectBits)) in
-      let b = small (rowsAt k) rowBits stepBits n maxOps maxSteps (sizes .0) (λ i. omega (arith, field-lt s (rowsAt k + rowBits * i) stepBits)) in
-      let d = small (rowsAt k + stepBits) rowBits instBits n maxOps maxInst (sizes .0) (λ i. omega (arith, field-lt s (rowsAt k + stepBits + rowBits * i) instBits)) in
+      let a = small planHead selectBits selectBits k instCells maxSelect (sizes .1) (λ i. omega (arith, field-lt s (planHead + selectBits * i) selectBits)) in
+      let b = small (rowsAt k) rowBits stepBits n opCells maxSteps (sizes .0) (λ i. omega (arith, field-lt s (rowsAt k + rowBits * i) stepBits)) in
+      let d = small (rowsAt k + stepBits) rowBits instBits n opCells maxInst (sizes .0) (λ i. omega (arith, field-lt s (rowsAt k + stepBits + rowBits * i) instBits)) in
       none-orElse _ _ (orElse-none _ _ (orElse-none _ _ heads .1) .1)
-      (none-unless _ 7 (both-and _ _ (both-and _ _ (both-and _ _ (both-and _ _ (both-and _ _ a b) d)
-      (blank-cells (columnAt s planHead selectBits selectBits) k maxInsts))
-      (blank-cells (columnAt s (rowsAt k) rowBits stepBits) n maxOps))
-      (blank-cells (columnAt s (rowsAt k + stepBits) rowBits instBits) n maxOps)))
+      (none-unless _ recordBroken (both-and _ _ (both-and _ _ (both-and _ _ (both-and _ _ (both-and _ _ a b) d)
+      (blank-cells (columnAt s planHead selectBits selectBits) k instCells))
+      (blank-cells (columnAt s (rowsAt k) rowBits stepBits) n opCells))
+      (blank-cells (columnAt s (rowsAt k + stepBits) rowBits instBits) n opCells)))
 
 -- a sheet that is read has no fault
 read-plan : (s : List ℕ) (p : Plan) → readPlan s ≡ record { answer = Read; plan = p } → (planFault s ≡ 0) × (p ≡ planIn s)
@@ -155,7 +155,7 @@ read-plan s p e = go (planFault s) refl e
     go zero q e = (q, sym (ap (λ (r : PlanRead). r .plan) (rw q at e)))
     go (suc k) q e =
         absurd (
-        let w : Refused (suc k) 1 ≡ Read = ap (λ (r : PlanRead). r .answer) (rw q at e) in
+        let w : Refused (suc k) paperPlan ≡ Read = ap (λ (r : PlanRead). r .answer) (rw q at e) in
         let c : _≡_ {A = ℕ} 0 1 = cc in
         omega arith)
 
@@ -167,17 +167,17 @@ plan-written-read s p hs e =
 -- ---- the same of the entries' promises
 
 -- what the writer has written is read as the record
-pub plan-read-output : (p : Plan) → PlanShape p → (before after : List ℕ) (size : ℕ) → Writes (writePlan p (length before)) (planSheet p) before (Wrote size) after
+pub plan-read-output : (p : Plan) → PlanShape p → (before after : List ℕ) (size : ℕ) → Promise (writePlan p (length before)) (planOut p before) (Wrote size) after
     → readPlan (take size after) ≡ record { answer = Read; plan = p }
-unfolding writePlan
+unfolding writePlan planOut
 plan-read-output p t before after size w =
     let f = wrote-sheet (planRecordFault p) paperPlan (bytesFor (planEnd (p .n) (p .k))) (planSheet p) before size after (sheet-length p) w in
     rw (f .1) (plan-read-written p t (f .0))
 
 -- what the reader has read is written as the sheet, wherever it fits
 pub plan-write-input : (s : List ℕ) (p : Plan) (before after : List ℕ) (r : Written) → Bytes s → readPlan s ≡ record { answer = Read; plan = p }
-    → length s ≤ length before → Writes (writePlan p (length before)) (planSheet p) before r after → (r ≡ Wrote (length s)) × (after ≡ s ++ drop (length s) before)
-unfolding writePlan
+    → length s ≤ length before → Promise (writePlan p (length before)) (planOut p before) r after → (r ≡ Wrote (length s)) × (after ≡ s ++ drop (length s) before)
+unfolding writePlan planOut
 plan-write-input s p before after r hs e l w =
     let q = plan-written-read s p hs e in
     let l' : length (planSheet p) ≤ length before = rw (q .0) l in

@@ -6,7 +6,8 @@ use mathlib.Core.Bool.{Bool, true, _&&_}
 use mathlib.Core.List.{List}
 use native.Mathlib.Omega.{arith}
 use borrow.Author.Tests.{leb-true, ltb-true, eqb-true}
-use lib.Dec.{leb, eqb}
+use lib.Dec.{leb, eqb, lit<}
+use Rattle.basics.specs.Numbers.{linkBroken, recordBroken, typeBroken}
 use Rattle.basics.specs.Counting.{allTo, sumTo}
 use Rattle.basics.specs.Faults.{_orElse_, first}
 use Rattle.basics.specs.Tables.{cell, blank}
@@ -25,7 +26,7 @@ use Rattle.sheets.proofs.JobLaws.{Counts, none-counts}
 pub none-link : (from to : List ℕ) (n i : ℕ) → linkFault from to n i ≡ 0 → (cell from i < cell to i) × (cell to i < n)
 unfolding linkFault
 none-link from to n i h =
-    let a = and-both _ _ (and-both _ _ (unless-none _ 3 h) .0) in
+    let a = and-both _ _ (and-both _ _ (unless-none _ linkBroken (lit< tt) h) .0) in
     (ltb-true _ _ (a .0), ltb-true _ _ (a .1))
 
 -- ---- a type without fault
@@ -48,7 +49,7 @@ pair-small time interval h = ⊎-elim none some (either _ _ h)
 module _ (copies times intervals : List ℕ) (y : ℕ) (h : typeFault copies times intervals y ≡ 0) where
   type-rules : (copiesOk copies y ≡ true) × (allTo (pairSound times intervals y) kindCount ≡ true)
   unfolding typeFault
-  type-rules = and-both (copiesOk copies y) (allTo (pairSound times intervals y) kindCount) (unless-none _ 4 h)
+  type-rules = and-both (copiesOk copies y) (allTo (pairSound times intervals y) kindCount) (unless-none _ typeBroken (lit< tt) h)
 
   pub none-copies : cell copies y ≤ maxCopies
   none-copies =
@@ -91,7 +92,7 @@ unfolding jobRecordFault jobRulesFault jobFits graphBlank unitsBlank
 none-record j h =
     let r = orElse-none _ _ (orElse-none _ _ h .1) in
     let l = orElse-none _ _ (r .0) in
-    let f = and-both _ _ (unless-none _ 6 (r .1)) in
+    let f = and-both _ _ (unless-none _ recordBroken (lit< tt) (r .1)) in
     let g = and-both _ _ (f .0) in
     let k = and-both _ _ (g .0) in
     let w = and-both _ _ (k .0) in

@@ -1,7 +1,6 @@
 -- The answers of readers and writers: what each case says in numbers (`readingSays`, `writtenSays`), which case a writer
--- gives (`written`), and its promise (`Writes`).
+-- gives (`written`), and the bytes that it leaves (`output`).
 use Prim.Native.Nat.{ℕ, zero, suc}
-use mathlib.Core.Path.{_≡_}
 use mathlib.Core.Bool.{Bool, true, false}
 use mathlib.Core.List.{List, _++_}
 use lib.Dec.{leb}
@@ -39,9 +38,3 @@ written (suc k) paper size room = Refused (suc k) paper
 unfoldable pub output : Written → List ℕ → List ℕ → List ℕ
 output (Wrote size) sheet out = sheet ++ drop size out
 output (Refused k paper) sheet out = out
-
--- the promise of a writer that is to answer `answer` and write `sheet`: its answer r, and the output's bytes `after`, where
--- they were `before`
-pub record Writes (answer : Written) (sheet before : List ℕ) (r : Written) (after : List ℕ) : Type 0 where
-  pub told : r ≡ answer
-  pub bytes : after ≡ output answer sheet before

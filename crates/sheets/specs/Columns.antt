@@ -6,11 +6,11 @@ use Rattle.bits.specs.Bits.{field}
 use Rattle.bits.specs.Sheet.{Field, of}
 use Rattle.sheets.specs.Limits.{kindCount, timeBits, pairBits, typeBits}
 
--- a column's first bit, stride and width are small
+-- a column whose first bit, stride and width are small enough that no position overflows
 pub record InReach (at stride w : ℕ) : Type 0 where
-  pub near : at < 2 ^ 24
-  pub close : stride < 2 ^ 16
-  pub narrow : w ≤ 16
+  pub atBound : at < 2 ^ 24
+  pub strideBound : stride < 2 ^ 16
+  pub widthBound : w ≤ 16
 
 -- the i-th of fields of w bits, the first at bit `at`, each `stride` bits behind the one before
 abbrev pub columnAt : List ℕ → ℕ → ℕ → ℕ → ℕ → ℕ

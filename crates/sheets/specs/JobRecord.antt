@@ -10,16 +10,16 @@ use Rattle.basics.specs.Counting.{allTo, sumTo}
 use Rattle.basics.specs.Faults.{_orElse_, faultUnless, first}
 use Rattle.basics.specs.Numbers.{outsideLimit, linkBroken, typeBroken, recordBroken}
 use Rattle.basics.specs.Tables.{cell, within, blank}
-use Rattle.sheets.specs.Limits.{maxOps, maxLinks, maxTypes, maxCopies, maxInsts, kindCount, maxKind, maxSteps, maxTime, pairCells, costBits}
+use Rattle.sheets.specs.Limits.{opCells, linkCells, typeCells, maxOps, maxLinks, maxTypes, maxCopies, maxInsts, kindCount, maxKind, maxSteps, maxTime, pairCells, costBits}
 use Rattle.sheets.specs.declared.Job.{Job}
 
 -- what the record's types say: the sizes of its tables, and that a cost has 16 bits
 pub record JobShape (j : Job) : Type 0 where
-  pub kinds : length (j .kinds) ≡ maxOps
-  pub from : length (j .from) ≡ maxLinks
-  pub to : length (j .to) ≡ maxLinks
-  pub costs : length (j .costs) ≡ maxTypes
-  pub copies : length (j .copies) ≡ maxTypes
+  pub kinds : length (j .kinds) ≡ opCells
+  pub from : length (j .from) ≡ linkCells
+  pub to : length (j .to) ≡ linkCells
+  pub costs : length (j .costs) ≡ typeCells
+  pub copies : length (j .copies) ≡ typeCells
   pub times : length (j .times) ≡ pairCells
   pub intervals : length (j .intervals) ≡ pairCells
   pub costBound : (y : ℕ) → cell (j .costs) y < 2 ^ costBits

@@ -1,5 +1,5 @@
 -- The job sheet: `jobIn` is the record that its bytes spell, `jobFault` its first fault, `readJob` the reader's answer;
--- `jobSheet` is a record's sheet, `writeJob` the writer's answer.
+-- `jobSheet` is a record's sheet, `writeJob` the writer's answer and `jobOut` what it leaves.
 use Prim.Native.Nat.{ℕ, zero, suc, _+_, _*_, _^_, _<_}
 use mathlib.Core.List.{List, [], _∷_, _++_}
 use lib.ListN.{length, replicate}
@@ -8,8 +8,8 @@ use Rattle.basics.specs.Numbers.{paperJob}
 use Rattle.basics.specs.Tables.{cell, cells}
 use Rattle.bits.specs.Bits.{field}
 use Rattle.bits.specs.Sheet.{Field, of, bytesFor, pack, many}
-use Rattle.sheets.specs.Limits.{jobForm, maxOps, maxLinks, maxTypes, pairCells, kindCount, formBits, opBits, linkCountBits, typeCountBits, stepBits, timeBits, kindBits, costBits, copiesBits, nAt, eAt, mAt, tAt, clockAt, wireAt, jobHead, linkBits, typeHead, typeBits}
-use Rattle.sheets.specs.Answers.{written}
+use Rattle.sheets.specs.Limits.{opCells, linkCells, typeCells, jobForm, pairCells, kindCount, formBits, opBits, linkCountBits, typeCountBits, stepBits, timeBits, kindBits, costBits, copiesBits, nAt, eAt, mAt, tAt, clockAt, wireAt, jobHead, linkBits, typeHead, typeBits}
+use Rattle.sheets.specs.Answers.{written, output}
 use Rattle.sheets.specs.Groups.{runsOut, formFault, fillFault}
 use Rattle.sheets.specs.Columns.{columnAt, pairAt, single, double}
 use Rattle.sheets.specs.JobRecord.{jobCountsFault, linkFault, typeFault, jobRecordFault}
@@ -53,11 +53,11 @@ jobOf s n e m =
       t = field s tAt stepBits;
       clock = clockIn s;
       wire = field s wireAt timeBits;
-      kinds = cells (columnAt s jobHead kindBits kindBits) n maxOps;
-      from = cells (columnAt s (linksAt n) linkBits opBits) e maxLinks;
-      to = cells (columnAt s (linksAt n + opBits) linkBits opBits) e maxLinks;
-      costs = cells (columnAt s (typesAt n e) typeBits costBits) m maxTypes;
-      copies = cells (columnAt s (typesAt n e + costBits) typeBits copiesBits) m maxTypes;
+      kinds = cells (columnAt s jobHead kindBits kindBits) n opCells;
+      from = cells (columnAt s (linksAt n) linkBits opBits) e linkCells;
+      to = cells (columnAt s (linksAt n + opBits) linkBits opBits) e linkCells;
+      costs = cells (columnAt s (typesAt n e) typeBits costBits) m typeCells;
+      copies = cells (columnAt s (typesAt n e + costBits) typeBits copiesBits) m typeCells;
       times = cells (pairAt s (typesAt n e + typeHead)) (kindCount * m) pairCells;
       intervals = cells (pairAt s (typesAt n e + typeHead + timeBits)) (kindCount * m) pairCells;
     }
@@ -106,11 +106,11 @@ noJob =
       t = 0;
       clock = 0;
       wire = 0;
-      kinds = replicate maxOps 0;
-      from = replicate maxLinks 0;
-      to = replicate maxLinks 0;
-      costs = replicate maxTypes 0;
-      copies = replicate maxTypes 0;
+      kinds = replicate opCells 0;
+      from = replicate linkCells 0;
+      to = replicate linkCells 0;
+      costs = replicate typeCells 0;
+      copies = replicate typeCells 0;
       times = replicate pairCells 0;
       intervals = replicate pairCells 0;
     }
@@ -156,6 +156,10 @@ jobSheet j = pack (jobFields j)
 -- into an output of `room` bytes
 unfoldable pub writeJob : Job → ℕ → Written
 writeJob j room = written (jobRecordFault j) paperJob (bytesFor (jobEnd (j .n) (j .e) (j .m))) room
+
+-- the output's bytes after it, where they were `before`
+unfoldable pub jobOut : Job → List ℕ → List ℕ
+jobOut j before = output (writeJob j (length before)) (jobSheet j) before
 
 -- ---- inside the writer
 

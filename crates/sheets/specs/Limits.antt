@@ -44,9 +44,23 @@ maxTime = 1023
 abbrev pub maxSelect : ℕ
 maxSelect = 1
 
--- cells of the tables of times and intervals: kind k of type y has cell kindCount * y + k
+-- ---- cells of a record's tables
+
+abbrev pub opCells : ℕ
+opCells = 24
+
+abbrev pub linkCells : ℕ
+linkCells = 64
+
+abbrev pub typeCells : ℕ
+typeCells = 8
+
+abbrev pub instCells : ℕ
+instCells = 16
+
+-- times and intervals: kind k of type y has cell kindCount * y + k
 abbrev pub pairCells : ℕ
-pairCells = maxTypes * kindCount
+pairCells = typeCells * kindCount
 
 -- ---- widths
 
@@ -91,7 +105,7 @@ selectBits = 1
 abbrev pub instBits : ℕ
 instBits = 4
 
--- ---- places in a job's header: form, N, E, M, T, clock, wire
+-- ---- positions in a job's header: form, N, E, M, T, clock, wire
 
 abbrev pub nAt : ℕ
 nAt = formBits

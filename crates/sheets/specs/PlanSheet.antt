@@ -1,5 +1,5 @@
 -- The plan sheet: `planIn` is the record that its bytes spell, `planFault` its first fault, `readPlan` the reader's answer;
--- `planSheet` is a record's sheet, `writePlan` the writer's answer.
+-- `planSheet` is a record's sheet, `writePlan` the writer's answer and `planOut` what it leaves.
 use Prim.Native.Nat.{ℕ, zero, suc, _+_, _*_}
 use mathlib.Core.Path.{_≡_}
 use mathlib.Core.Bool.{Bool, _&&_}
@@ -11,8 +11,8 @@ use Rattle.basics.specs.Numbers.{outsideLimit, recordBroken, paperPlan}
 use Rattle.basics.specs.Tables.{cells, within, blank}
 use Rattle.bits.specs.Bits.{field}
 use Rattle.bits.specs.Sheet.{Field, of, bytesFor, pack, many}
-use Rattle.sheets.specs.Limits.{planForm, maxOps, maxInsts, maxInst, maxSteps, maxSelect, formBits, opBits, instCountBits, stepBits, instBits, selectBits, nAt, kAt, planHead, rowBits}
-use Rattle.sheets.specs.Answers.{written}
+use Rattle.sheets.specs.Limits.{opCells, instCells, planForm, maxOps, maxInsts, maxInst, maxSteps, maxSelect, formBits, opBits, instCountBits, stepBits, instBits, selectBits, nAt, kAt, planHead, rowBits}
+use Rattle.sheets.specs.Answers.{written, output}
 use Rattle.sheets.specs.Groups.{runsOut, formFault, fillFault}
 use Rattle.sheets.specs.Columns.{columnAt, single, double}
 use Rattle.sheets.specs.declared.Plan.{Plan}
@@ -22,9 +22,9 @@ use Rattle.sheets.specs.declared.Written.{Written}
 
 -- what the record's types say: the sizes of its tables
 pub record PlanShape (p : Plan) : Type 0 where
-  pub selection : length (p .selection) ≡ maxInsts
-  pub starts : length (p .starts) ≡ maxOps
-  pub insts : length (p .insts) ≡ maxOps
+  pub selection : length (p .selection) ≡ instCells
+  pub starts : length (p .starts) ≡ opCells
+  pub insts : length (p .insts) ≡ opCells
 
 -- ---- where each group starts
 
@@ -48,9 +48,9 @@ planOf s n k =
     record {
       n = n;
       k = k;
-      selection = cells (columnAt s planHead selectBits selectBits) k maxInsts;
-      starts = cells (columnAt s (rowsAt k) rowBits stepBits) n maxOps;
-      insts = cells (columnAt s (rowsAt k + stepBits) rowBits instBits) n maxOps;
+      selection = cells (columnAt s planHead selectBits selectBits) k instCells;
+      starts = cells (columnAt s (rowsAt k) rowBits stepBits) n opCells;
+      insts = cells (columnAt s (rowsAt k + stepBits) rowBits instBits) n opCells;
     }
 
 abbrev pub planIn : List ℕ → Plan
@@ -78,7 +78,7 @@ planFault s = planHeadFault s orElse planBodyFault s (planIn s)
 
 unfoldable pub noPlan : Plan
 noPlan =
-    record { n = 0; k = 0; selection = replicate maxInsts 0; starts = replicate maxOps 0; insts = replicate maxOps 0 }
+    record { n = 0; k = 0; selection = replicate instCells 0; starts = replicate opCells 0; insts = replicate opCells 0 }
 
 abbrev pub planRefused : ℕ → PlanRead
 planRefused fault = record { answer = Refused fault paperPlan; plan = noPlan }
@@ -118,3 +118,7 @@ planSheet p = pack (planFields p)
 -- into an output of `room` bytes
 unfoldable pub writePlan : Plan → ℕ → Written
 writePlan p room = written (planRecordFault p) paperPlan (bytesFor (planEnd (p .n) (p .k))) room
+
+-- the output's bytes after it, where they were `before`
+unfoldable pub planOut : Plan → List ℕ → List ℕ
+planOut p before = output (writePlan p (length before)) (planSheet p) before

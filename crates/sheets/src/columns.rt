@@ -5,7 +5,7 @@ ghost use lib.ListN.{length};
 ghost use Rattle.basics.specs.Tables.{cell, filled, cells};
 ghost use Rattle.bits.specs.Sheet.{many, putAll};
 ghost use Rattle.sheets.specs.Columns.{InReach, columnAt, pairAt, single, double};
-ghost use Rattle.sheets.specs.Limits.{maxTypes, maxInsts, maxOps, maxLinks, pairCells};
+ghost use Rattle.sheets.specs.Limits.{typeCells, instCells, opCells, linkCells, pairCells};
 use crate::limits::*;
 
 // Reads `count` fields of `width` bits into the first cells of a table: the first at bit `at`, each `stride` bits behind
@@ -36,8 +36,8 @@ pub fn type_column(
     width: usize,
     count: usize,
 ) -> [u16; TYPE_CELLS]
-    requires { ⌜ InReach at stride width × (count ≤ maxTypes) ⌝ }
-    ensures { λ r. ⌜ r ≡ cells (columnAt (now (s .entry)) at stride width) count maxTypes ⌝ }
+    requires { ⌜ InReach at stride width × (count ≤ typeCells) ⌝ }
+    ensures { λ r. ⌜ r ≡ cells (columnAt (now (s .entry)) at stride width) count typeCells ⌝ }
 {
     let mut table = [0u16; TYPE_CELLS];
     fill_column(s, at, stride, width, count, &mut table);
@@ -52,8 +52,8 @@ pub fn inst_column(
     width: usize,
     count: usize,
 ) -> [u16; INST_CELLS]
-    requires { ⌜ InReach at stride width × (count ≤ maxInsts) ⌝ }
-    ensures { λ r. ⌜ r ≡ cells (columnAt (now (s .entry)) at stride width) count maxInsts ⌝ }
+    requires { ⌜ InReach at stride width × (count ≤ instCells) ⌝ }
+    ensures { λ r. ⌜ r ≡ cells (columnAt (now (s .entry)) at stride width) count instCells ⌝ }
 {
     let mut table = [0u16; INST_CELLS];
     fill_column(s, at, stride, width, count, &mut table);
@@ -62,8 +62,8 @@ pub fn inst_column(
 
 // The same as a table with a cell for each operation.
 pub fn op_column(s: &[u8], at: usize, stride: usize, width: usize, count: usize) -> [u16; OP_CELLS]
-    requires { ⌜ InReach at stride width × (count ≤ maxOps) ⌝ }
-    ensures { λ r. ⌜ r ≡ cells (columnAt (now (s .entry)) at stride width) count maxOps ⌝ }
+    requires { ⌜ InReach at stride width × (count ≤ opCells) ⌝ }
+    ensures { λ r. ⌜ r ≡ cells (columnAt (now (s .entry)) at stride width) count opCells ⌝ }
 {
     let mut table = [0u16; OP_CELLS];
     fill_column(s, at, stride, width, count, &mut table);
@@ -78,8 +78,8 @@ pub fn link_column(
     width: usize,
     count: usize,
 ) -> [u16; LINK_CELLS]
-    requires { ⌜ InReach at stride width × (count ≤ maxLinks) ⌝ }
-    ensures { λ r. ⌜ r ≡ cells (columnAt (now (s .entry)) at stride width) count maxLinks ⌝ }
+    requires { ⌜ InReach at stride width × (count ≤ linkCells) ⌝ }
+    ensures { λ r. ⌜ r ≡ cells (columnAt (now (s .entry)) at stride width) count linkCells ⌝ }
 {
     let mut table = [0u16; LINK_CELLS];
     fill_column(s, at, stride, width, count, &mut table);

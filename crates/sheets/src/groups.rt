@@ -28,6 +28,6 @@ pub fn fill_fault(s: &[u8], end: usize) -> u32
     ensures { λ r. ⌜ r ≡ fillFault (now (s .entry)) end ⌝ }
 {
     let bytes = (end + 7) / 8;
-    let filled = bits::field(s, end, 8 * bytes - end) == 0;
-    fault_unless((s.len() == bytes) & filled, basics::FILL_BROKEN)
+    let zero = bits::field(s, end, 8 * bytes - end) == 0;
+    fault_unless((s.len() == bytes) & zero, basics::FILL_BROKEN)
 }

@@ -5,11 +5,11 @@ ghost use lib.ListN.{length};
 ghost use Rattle.basics.specs.Counting.{allTo, sumTo};
 ghost use Rattle.basics.specs.Faults.{first};
 ghost use Rattle.basics.specs.Tables.{cell as cellOf};
+ghost use Rattle.basics.specs.Answers.{Promise};
 ghost use Rattle.bits.specs.Sheet.{many, putAll};
 ghost use Rattle.sheets.specs.Limits.{kindCount, maxOps, maxLinks, maxTypes, maxSteps, maxTime, tAt, jobHead, typeBits};
-ghost use Rattle.sheets.specs.Answers.{Writes};
 ghost use Rattle.sheets.specs.JobRecord.{jobCountsFault, ascends as ascendsAt, linkFault, pairOk, pairSound, typeFault, graphBlank, unitsBlank, jobFits, jobRecordFault};
-ghost use Rattle.sheets.specs.JobSheet.{jobOf, jobIn, typesAt, jobEnd, jobHeadFault, linkGroup, typeGroup, jobTablesFault, jobBodyFault, jobRefused, readJob, jobCountFields, jobTimeFields, jobHeadFields, typeFields, graphFields, unitFields, TypesFit, jobSheet, writeJob};
+ghost use Rattle.sheets.specs.JobSheet.{jobOf, jobIn, typesAt, jobEnd, jobHeadFault, linkGroup, typeGroup, jobTablesFault, jobBodyFault, jobRefused, readJob, jobCountFields, jobTimeFields, jobHeadFields, typeFields, graphFields, unitFields, TypesFit, writeJob, jobOut};
 use crate::Job;
 use crate::JobRead;
 use crate::Reading;
@@ -112,8 +112,13 @@ fn type_fault(copies: &[u16], times: &[u16], intervals: &[u16], y: usize, before
     ensures { λ r. ⌜ r ≡ typeFault (now (copies .entry)) (now (times .entry)) (now (intervals .entry)) y ⌝ }
 {
     let own = cell(copies, y);
-    let some = (1 <= own) & (own <= MAX_COPIES) & (before + own as usize <= MAX_INSTS as usize);
-    fault_unless(some & pairs_sound(times, intervals, y), basics::TYPE_BROKEN)
+    let copies_ok = (1 <= own)
+        & (own <= MAX_COPIES)
+        & (before + own as usize <= MAX_INSTS as usize);
+    fault_unless(
+        copies_ok & pairs_sound(times, intervals, y),
+        basics::TYPE_BROKEN,
+    )
 }
 
 // The first fault of m types, in a sheet of so many bytes where they start at bit `at`.
@@ -151,7 +156,10 @@ fn job_head_fault(s: &[u8]) -> u32
     let e = bits::field(s, E_AT, LINK_COUNT_BITS) as u16;
     let m = bits::field(s, M_AT, TYPE_COUNT_BITS) as u16;
     let clock = bits::field(s, CLOCK_AT, TIME_BITS) as u16;
-    let rest = or_else(runs_out(s.len(), JOB_HEAD), job_counts_fault(n, e, m, clock));
+    let rest = or_else(
+        runs_out(s.len(), JOB_HEAD),
+        job_counts_fault(n, e, m, clock),
+    );
     or_else(form_fault(s, JOB_FORM), rest)
 }
 
@@ -293,8 +301,8 @@ fn job_fits(j: Job) -> bool
     ensures { λ r. ⌜ r ≡ jobFits j ⌝ }
 {
     let kinds = j.kinds;
-    let small = basics::within(&kinds, MAX_KIND, j.n as usize);
-    (j.t <= MAX_STEPS) & (j.wire <= MAX_TIME) & small & graph_blank(j) & units_blank(j)
+    let kinds_fit = basics::within(&kinds, MAX_KIND, j.n as usize);
+    (j.t <= MAX_STEPS) & (j.wire <= MAX_TIME) & kinds_fit & graph_blank(j) & units_blank(j)
 }
 
 // The bits of the job's sheet.
@@ -416,7 +424,7 @@ fn put_units(out: &mut [u8], j: Job)
 
 // Writes the job's sheet from the output's first byte on. A refusal changes no byte.
 pub fn write_job(job: Job, out: &mut [u8]) -> Written
-    ensures { λ r. ⌜ Writes (writeJob job (length (now (out .entry)))) (jobSheet job) (now (out .entry)) r (now (out .exit)) ⌝ }
+    ensures { λ r. ⌜ Promise (writeJob job (length (now (out .entry)))) (jobOut job (now (out .entry))) r (now (out .exit)) ⌝ }
 {
     let fault = job_record_fault(job);
     if fault != 0 {

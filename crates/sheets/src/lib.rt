@@ -1,6 +1,6 @@
 // Job and plan sheets: the records, and what a reader or a writer answers.
 pub mod answers; // what each case of an answer says in numbers
-pub mod limits; // limits, widths and places
+pub mod limits; // limits, widths and positions
 pub mod groups; // groups of a sheet in stream order, and their faults
 pub mod columns; // tables read out of fields, and put into them
 pub mod jobs; // the job sheet: read_job, write_job

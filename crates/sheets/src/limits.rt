@@ -1,4 +1,4 @@
-// The limits of a job and a plan, and the widths and places of their fields in bits.
+// The limits of a job and a plan, and the widths and positions of their fields in bits.
 
 pub const MAX_OPS: u16 = 24;
 
@@ -58,7 +58,7 @@ pub const SELECT_BITS: usize = 1;
 
 pub const INST_BITS: usize = 4;
 
-// Places in a job's header, and its end.
+// Positions in a job's header, and its end.
 pub const N_AT: usize = FORM_BITS;
 
 pub const E_AT: usize = N_AT + OP_BITS;

@@ -2,10 +2,10 @@
 ghost use mathlib.Core.Path.{_≡_};
 ghost use Prim.Native.Nat.{_*_, _≤_};
 ghost use lib.ListN.{length};
+ghost use Rattle.basics.specs.Answers.{Promise};
 ghost use Rattle.bits.specs.Sheet.{putAll};
 ghost use Rattle.sheets.specs.Limits.{maxOps, maxInsts, planHead};
-ghost use Rattle.sheets.specs.Answers.{Writes};
-ghost use Rattle.sheets.specs.PlanSheet.{planEnd, planOf, planIn, planCountsFault, planHeadFault, planBodyFault, planRefused, readPlan, planFits, planRecordFault, planCountFields, planFields, planSheet, writePlan};
+ghost use Rattle.sheets.specs.PlanSheet.{planEnd, planOf, planIn, planCountsFault, planHeadFault, planBodyFault, planRefused, readPlan, planFits, planRecordFault, planCountFields, planFields, writePlan, planOut};
 use crate::Plan;
 use crate::PlanRead;
 use crate::Reading;
@@ -181,7 +181,7 @@ fn put_plan(out: &mut [u8], p: Plan)
 
 // Writes the plan's sheet from the output's first byte on. A refusal changes no byte.
 pub fn write_plan(plan: Plan, out: &mut [u8]) -> Written
-    ensures { λ r. ⌜ Writes (writePlan plan (length (now (out .entry)))) (planSheet plan) (now (out .entry)) r (now (out .exit)) ⌝ }
+    ensures { λ r. ⌜ Promise (writePlan plan (length (now (out .entry)))) (planOut plan (now (out .entry))) r (now (out .exit)) ⌝ }
 {
     let fault = plan_record_fault(plan);
     if fault != 0 {

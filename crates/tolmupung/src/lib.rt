@@ -1,9 +1,11 @@
 // The entries for C, as include/tolmupung.h declares them.
 ghost use mathlib.Core.Path.{_≡_};
 ghost use lib.ListN.{length};
-ghost use Rattle.sheets.specs.JobSheet.{readJob, jobSheet, writeJob};
-ghost use Rattle.sheets.specs.PlanSheet.{readPlan, planSheet, writePlan};
-ghost use Rattle.tolmupung.specs.Promises.{jobSays, planSays, Writes};
+ghost use Rattle.sheets.specs.JobSheet.{readJob, writeJob, jobOut};
+ghost use Rattle.sheets.specs.PlanSheet.{readPlan, writePlan, planOut};
+ghost use Rattle.tolmupung.specs.Promises.{jobSays, planSays};
+ghost use Rattle.basics.specs.Answers.{Promise};
+ghost use Rattle.sheets.specs.Answers.{writtenSays};
 use basics::Answer;
 use sheets::Job;
 use sheets::Plan;
@@ -50,14 +52,14 @@ pub extern "C" fn tolmupung_read_plan(sheet: &[u8]) -> PlanRead
 
 #[no_mangle]
 pub extern "C" fn tolmupung_write_job(job: Job, out: &mut [u8]) -> Answer
-    ensures { λ r. ⌜ Writes (writeJob job (length (now (out .entry)))) (jobSheet job) (now (out .entry)) r (now (out .exit)) ⌝ }
+    ensures { λ r. ⌜ Promise (writtenSays (writeJob job (length (now (out .entry))))) (jobOut job (now (out .entry))) r (now (out .exit)) ⌝ }
 {
     written_says(sheets::jobs::write_job(job, out))
 }
 
 #[no_mangle]
 pub extern "C" fn tolmupung_write_plan(plan: Plan, out: &mut [u8]) -> Answer
-    ensures { λ r. ⌜ Writes (writePlan plan (length (now (out .entry)))) (planSheet plan) (now (out .entry)) r (now (out .exit)) ⌝ }
+    ensures { λ r. ⌜ Promise (writtenSays (writePlan plan (length (now (out .entry))))) (planOut plan (now (out .entry))) r (now (out .exit)) ⌝ }
 {
     written_says(sheets::plans::write_plan(plan, out))
 }

@@ -24,16 +24,16 @@ unfolding filled
 loop-holds c = search needs
 
 mul-field : tie.Need-mul-field Inv-loop μ-loop
-mul-field c = let a = c .before .before .before .before in omega (arith, reach (a .args .stride) (c .before .loop .i) (a .pre .0 .close) (omega arith))
+mul-field c = let a = c .before .before .before .before in omega (arith, reach (a .args .stride) (c .before .loop .i) (a .pre .0 .strideBound) (omega arith))
 
 add-field : tie.Need-add-field Inv-loop μ-loop
-add-field c = let a = c .before .before .before .before in omega (arith, a .pre .0 .near, reach (a .args .stride) (c .before .loop .i) (a .pre .0 .close) (omega arith))
+add-field c = let a = c .before .before .before .before in omega (arith, a .pre .0 .atBound, reach (a .args .stride) (c .before .loop .i) (a .pre .0 .strideBound) (omega arith))
 
 field-requires : tie.Need-field-requires Inv-loop μ-loop
-field-requires c κs = let a = c .before .before .before .before in (a .pre .0 .narrow, omega (arith, a .pre .0 .near, reach (a .args .stride) (c .before .loop .i) (a .pre .0 .close) (omega arith)))
+field-requires c κs = let a = c .before .before .before .before in (a .pre .0 .widthBound, omega (arith, a .pre .0 .atBound, reach (a .args .stride) (c .before .loop .i) (a .pre .0 .strideBound) (omega arith)))
 
 cast-table : tie.Need-cast-table Inv-loop μ-loop
-cast-table c = let a = c .before .before .before .before .before in record { fits = lt-of-lt-of-le (c .field .ensures .1) (pow-mono {j = 16} (a .pre .0 .narrow)) }
+cast-table c = let a = c .before .before .before .before .before in record { fits = lt-of-lt-of-le (c .field .ensures .1) (pow-mono {j = 16} (a .pre .0 .widthBound)) }
 
 mul-table : tie.Need-mul-table Inv-loop μ-loop
 mul-table c = omega arith

@@ -5,12 +5,13 @@ use native.Mathlib.Omega.{arith}
 use borrow.Author.Needs.{needs}
 use Rattle.basics.proofs.TableLaws.{filled-more}
 use Rattle.basics.specs.Tables.{filled, cells}
+use Rattle.sheets.specs.Limits.{pairCells}
 use Rattle.sheets.specs.Columns.{pairAt}
 use Rattle.sheets.proofs.columns.pair_column.Statement.{statement}
 use Rattle.sheets.proofs.columns.pair_column.Tie as tie
 
 abbrev Inv-loop : tie.InvT-loop
-Inv-loop s at count table₀ c₀ table c = (c ≤ count) × (table ≡ cells (pairAt s at) c 64)
+Inv-loop s at count table₀ c₀ table c = (c ≤ count) × (table ≡ cells (pairAt s at) c pairCells)
 
 abbrev μ-loop : tie.MeasureT-loop
 μ-loop s at count table₀ c₀ table c = count - c

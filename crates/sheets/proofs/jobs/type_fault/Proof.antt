@@ -7,14 +7,14 @@ use Rattle.sheets.proofs.jobs.type_fault.Tie as tie
 cell-requires : tie.Need-cell-requires
 cell-requires c κs = search needs
 
-cast-some : tie.Need-cast-some
-cast-some c = search needs
+cast-copies-ok : tie.Need-cast-copies-ok
+cast-copies-ok c = search needs
 
-add-some : tie.Need-add-some
-add-some c = search needs
+add-copies-ok : tie.Need-add-copies-ok
+add-copies-ok c = search needs
 
-cast-some-2 : tie.Need-cast-some-2
-cast-some-2 c = search needs
+cast-copies-ok-2 : tie.Need-cast-copies-ok-2
+cast-copies-ok-2 c = search needs
 
 pairs-sound-requires : tie.Need-pairs-sound-requires
 pairs-sound-requires c κs = search needs
@@ -34,9 +34,9 @@ type-fault-spec =
     tie.close
     (tie.spec
     cell-requires
-    cast-some
-    add-some
-    cast-some-2
+    cast-copies-ok
+    add-copies-ok
+    cast-copies-ok-2
     pairs-sound-requires
     fault-unless-requires
     returns)

@@ -11,7 +11,7 @@ use Rattle.bits.specs.Sheet.{bytesFor}
 use Rattle.sheets.proofs.AnswerLaws.{writes-fault, writes-short, writes-sheet}
 use Rattle.sheets.proofs.JobFieldLaws.{put-job}
 use Rattle.sheets.proofs.RecordLaws.{none-record}
-use Rattle.sheets.specs.JobSheet.{jobEnd, jobSheet, writeJob}
+use Rattle.sheets.specs.JobSheet.{jobEnd, jobSheet, writeJob, jobOut}
 use mir.Syntax.{w16}
 use mir.Val.{Fits}
 use Rattle.sheets.proofs.jobs.write_job.Statement.{statement}
@@ -21,7 +21,7 @@ job-record-fault-requires : tie.Need-job-record-fault-requires
 job-record-fault-requires c κs = search needs
 
 returns : tie.Need-returns
-unfolding writeJob
+unfolding writeJob jobOut
 returns c =
     let a = c .before .before .before .args in
     writes-fault _ _ _ (jobSheet (a .job)) (now (a .out)) _ (c .before .job-record-fault .ensures) (c .if1 .taken)
@@ -33,7 +33,7 @@ add-length : tie.Need-add-length
 add-length c = search needs
 
 returns-2 : tie.Need-returns-2
-unfolding writeJob
+unfolding writeJob jobOut
 returns-2 c =
     let b2 = c .before .before in
     let b3 = b2 .before in
@@ -75,7 +75,7 @@ same-length : tie.Need-same-length
 same-length c = search needs
 
 returns-3 : tie.Need-returns-3
-unfolding writeJob
+unfolding writeJob jobOut
 returns-3 c =
     let b2 = c .before .before in
     let b6 = b2 .before .before .before .before in

@@ -9,7 +9,7 @@ use lib.Pow.{pow-pos}
 use Rattle.bits.specs.Sheet.{bytesFor}
 use Rattle.sheets.proofs.AnswerLaws.{writes-fault, writes-short, writes-sheet}
 use Rattle.sheets.proofs.PlanFieldLaws.{none-plan, put-plan}
-use Rattle.sheets.specs.PlanSheet.{planEnd, planSheet, writePlan}
+use Rattle.sheets.specs.PlanSheet.{planEnd, planSheet, writePlan, planOut}
 use Rattle.sheets.proofs.plans.write_plan.Statement.{statement}
 use Rattle.sheets.proofs.plans.write_plan.Tie as tie
 
@@ -17,7 +17,7 @@ plan-record-fault-requires : tie.Need-plan-record-fault-requires
 plan-record-fault-requires c κs = search needs
 
 returns : tie.Need-returns
-unfolding writePlan
+unfolding writePlan planOut
 returns c =
     let a = c .before .before .before .args in
     writes-fault _ _ _ (planSheet (a .plan)) (now (a .out)) _ (c .before .plan-record-fault .ensures) (c .if1 .taken)
@@ -29,7 +29,7 @@ add-length : tie.Need-add-length
 add-length c = search needs
 
 returns-2 : tie.Need-returns-2
-unfolding writePlan
+unfolding writePlan planOut
 returns-2 c =
     let b2 = c .before .before in
     let b3 = b2 .before in
@@ -63,7 +63,7 @@ same-length : tie.Need-same-length
 same-length c = search needs
 
 returns-3 : tie.Need-returns-3
-unfolding writePlan
+unfolding writePlan planOut
 returns-3 c =
     let b2 = c .before .before in
     let b6 = b2 .before .before .before .before in
