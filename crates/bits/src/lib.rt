@@ -3,6 +3,15 @@ ghost use mathlib.Core.Path.{_≡_};
 ghost use Prim.Native.Nat.{_+_, _*_, _/_, _%_, _^_, _≤_, _<_};
 ghost use lib.ListN.{length};
 ghost use Rattle.bits.specs.Bits.{bit as bitAt, field as fieldAt, putField};
+ghost use Rattle.bits.specs.Sheet.{bytesFor};
+
+// How many bytes hold n bits.
+pub fn bytes_for(n: usize) -> usize
+    requires { ⌜ n < 2 ^ 32 ⌝ }
+    ensures { λ r. ⌜ r ≡ bytesFor n ⌝ }
+{
+    (n + 7) / 8
+}
 
 // The bit at `at`, and 0 past the end.
 fn bit(s: &[u8], at: usize) -> u32

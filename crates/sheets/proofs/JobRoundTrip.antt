@@ -17,7 +17,7 @@ use Rattle.bits.specs.Bits.{Bytes, field}
 use Rattle.bits.specs.Sheet.{Field, total, bytesFor, fill, pack, many}
 use Rattle.bits.proofs.FieldLaws.{field-lt}
 use Rattle.bits.proofs.SheetLaws.{Holds, holds-pack, pack-holds, fill-pack, length-pack, holds-append, append-holds, holds-many, many-holds}
-use Rattle.sheets.specs.Limits.{opCells, linkCells, typeCells, jobForm, pairCells, kindCount, maxKind, maxSteps, maxTime, opBits, stepBits, timeBits, kindBits, costBits, copiesBits, tAt, wireAt, jobHead, linkBits, pairBits, typeHead, typeBits}
+use Rattle.sheets.specs.Limits.{formBits, opCells, linkCells, typeCells, jobForm, pairCells, kindCount, maxKind, maxSteps, maxTime, opBits, stepBits, timeBits, kindBits, costBits, copiesBits, tAt, wireAt, jobHead, linkBits, pairBits, typeHead, typeBits}
 use Rattle.sheets.specs.Columns.{columnAt, pairAt, single, double}
 use Rattle.sheets.specs.JobRecord.{JobShape, graphBlank, unitsBlank, jobFits, jobRecordFault}
 use Rattle.sheets.specs.JobSheet.{linksAt, typesAt, jobEnd, nIn, eIn, mIn, clockIn, jobOf, jobIn, jobHeadFault, jobBodyFault, jobFault, jobAnswer, readJob, typeFields, graphFields, unitFields, jobFields, jobSheet, writeJob, jobOut}
@@ -37,21 +37,43 @@ sheet-length : (j : Job) → length (jobSheet j) ≡ bytesFor (jobEnd (j .n) (j 
 unfolding jobSheet
 sheet-length j = length-pack (jobFields j) ∙ ap (λ (k : ℕ). bytesFor k) (total-job j)
 
+-- the fields of a sheet that spells j, from the header on
+record Spelt (s : List ℕ) (j : Job) : Type 0 where
+  form : field s 0 formBits ≡ jobForm
+  ops : nIn s ≡ j .n
+  links : eIn s ≡ j .e
+  types : mIn s ≡ j .m
+  steps : field s tAt stepBits ≡ j .t
+  clock : clockIn s ≡ j .clock
+  wire : field s wireAt timeBits ≡ j .wire
+  tables : Holds s jobHead (graphFields j ++ unitFields j)
+
 -- ---- what is read of a record's sheet
 
 module _ (j : Job) (t : JobShape j) (z : jobRecordFault j ≡ 0) where
   sound : JobSound j
   sound = none-record j z
 
-  held : Holds (jobSheet j) 0 (jobFields j)
-  unfolding jobSheet
-  held = holds-pack (jobFields j) (fit-job j sound (t .costBound))
+  held : Spelt (jobSheet j) j
+  unfolding jobSheet Holds
+  held =
+      let h = holds-pack (jobFields j) (fit-job j sound (t .costBound)) in
+      record {
+        form = h .0;
+        ops = h .1 .0;
+        links = h .1 .1 .0;
+        types = h .1 .1 .1 .0;
+        steps = h .1 .1 .1 .1 .0;
+        clock = h .1 .1 .1 .1 .1 .0;
+        wire = h .1 .1 .1 .1 .1 .1 .0;
+        tables = h .1 .1 .1 .1 .1 .1 .1;
+      }
 
   -- kinds, links and types, each where it starts
   graph-units : Holds (jobSheet j) jobHead (graphFields j) × Holds (jobSheet j) (typesAt (j .n) (j .e)) (unitFields j)
   unfolding Holds
   graph-units =
-      let r = holds-append (jobSheet j) jobHead (graphFields j) (unitFields j) (held .1 .1 .1 .1 .1 .1 .1) in
+      let r = holds-append (jobSheet j) jobHead (graphFields j) (unitFields j) (held .tables) in
       let e : jobHead + total (graphFields j) ≡ typesAt (j .n) (j .e) = omega (arith, total-graph j) in
       (r .0, subst (λ (k : ℕ). Holds (jobSheet j) k (unitFields j)) e (r .1))
 
@@ -129,9 +151,9 @@ module _ (j : Job) (t : JobShape j) (z : jobRecordFault j ≡ 0) where
         n = j .n;
         e = j .e;
         m = j .m;
-        t = held .1 .1 .1 .1 .0 i;
-        clock = held .1 .1 .1 .1 .1 .0 i;
-        wire = held .1 .1 .1 .1 .1 .1 .0 i;
+        t = held .steps i;
+        clock = held .clock i;
+        wire = held .wire i;
         kinds = a i;
         from = b i;
         to = c i;
@@ -143,7 +165,7 @@ module _ (j : Job) (t : JobShape j) (z : jobRecordFault j ≡ 0) where
 
   job-in : jobIn (jobSheet j) ≡ j
   unfolding Holds
-  job-in = rw (held .1 .0, held .1 .1 .0, held .1 .1 .1 .0) job-there
+  job-in = rw (held .ops, held .links, held .types) job-there
 
   sheet-fill : field (jobSheet j) (jobEnd (j .n) (j .e) (j .m)) (fill (jobEnd (j .n) (j .e) (j .m))) ≡ 0
   unfolding jobSheet
@@ -153,9 +175,9 @@ module _ (j : Job) (t : JobShape j) (z : jobRecordFault j ≡ 0) where
   unfolding jobHeadFault jobRecordFault Holds
   head-none =
       let l = sheet-length j in
-      none-orElse _ _ (form-none (jobSheet j) jobForm (held .0) (omega arith))
+      none-orElse _ _ (form-none (jobSheet j) jobForm (held .form) (omega arith))
       (none-orElse _ _ (whole-none (length (jobSheet j)) jobHead (omega arith))
-      (rw (held .1 .0, held .1 .1 .0, held .1 .1 .1 .0, held .1 .1 .1 .1 .1 .0) (orElse-none _ _ z .0)))
+      (rw (held .ops, held .links, held .types, held .clock) (orElse-none _ _ z .0)))
 
   body-none : jobBodyFault (jobSheet j) j ≡ 0
   unfolding jobBodyFault jobRecordFault

@@ -11,7 +11,7 @@ pub fn runs_out(bytes: usize, end: usize) -> u32
     requires { ⌜ end < 2 ^ 32 ⌝ }
     ensures { λ r. ⌜ r ≡ runsOut bytes end ⌝ }
 {
-    fault_unless((end + 7) / 8 <= bytes, basics::BITS_RUN_OUT)
+    fault_unless(bits::bytes_for(end) <= bytes, basics::BITS_RUN_OUT)
 }
 
 // The sheet's form is not `form`, or its bits run out.
@@ -27,7 +27,7 @@ pub fn fill_fault(s: &[u8], end: usize) -> u32
     requires { ⌜ end < 2 ^ 32 ⌝ }
     ensures { λ r. ⌜ r ≡ fillFault (now (s .entry)) end ⌝ }
 {
-    let bytes = (end + 7) / 8;
+    let bytes = bits::bytes_for(end);
     let zero = bits::field(s, end, 8 * bytes - end) == 0;
     fault_unless((s.len() == bytes) & zero, basics::FILL_BROKEN)
 }

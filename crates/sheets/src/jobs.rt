@@ -9,7 +9,7 @@ ghost use Rattle.basics.specs.Answers.{Promise};
 ghost use Rattle.bits.specs.Sheet.{many, putAll};
 ghost use Rattle.sheets.specs.Limits.{kindCount, maxOps, maxLinks, maxTypes, maxSteps, maxTime, tAt, jobHead, typeBits};
 ghost use Rattle.sheets.specs.JobRecord.{jobCountsFault, ascends as ascendsAt, linkFault, pairOk, pairSound, typeFault, graphBlank, unitsBlank, jobFits, jobRecordFault};
-ghost use Rattle.sheets.specs.JobSheet.{jobOf, jobIn, typesAt, jobEnd, jobHeadFault, linkGroup, typeGroup, jobTablesFault, jobBodyFault, jobRefused, readJob, jobCountFields, jobTimeFields, jobHeadFields, typeFields, graphFields, unitFields, TypesFit, writeJob, jobOut};
+ghost use Rattle.sheets.specs.JobSheet.{jobOf, jobIn, linksAt, typesAt, jobEnd, jobHeadFault, linkGroup, typeGroup, jobTablesFault, jobBodyFault, jobRefused, readJob, jobCountFields, jobTimeFields, jobHeadFields, typeFields, graphFields, unitFields, TypesFit, writeJob, jobOut};
 use crate::Job;
 use crate::JobRead;
 use crate::Reading;
@@ -28,6 +28,25 @@ use basics::blank;
 use basics::cell;
 use basics::fault_unless;
 use basics::or_else;
+
+// Where links, types and fill start.
+fn links_at(n: u16) -> usize
+    ensures { λ r. ⌜ r ≡ linksAt n ⌝ }
+{
+    JOB_HEAD + KIND_BITS * (n as usize)
+}
+
+fn types_at(n: u16, e: u16) -> usize
+    ensures { λ r. ⌜ r ≡ typesAt n e ⌝ }
+{
+    links_at(n) + LINK_BITS * (e as usize)
+}
+
+fn job_end(n: u16, e: u16, m: u16) -> usize
+    ensures { λ r. ⌜ r ≡ jobEnd n e m ⌝ }
+{
+    types_at(n, e) + TYPE_BITS * (m as usize)
+}
 
 // N, E, M or the clock is outside its limit.
 fn job_counts_fault(n: u16, e: u16, m: u16, clock: u16) -> u32
@@ -67,7 +86,7 @@ fn link_fault(from: &[u16], to: &[u16], n: u16, i: usize) -> u32
 fn links_fault(bytes: usize, from: &[u16], to: &[u16], n: u16, e: u16) -> u32
     ensures { λ r. ⌜ r ≡ first (linkGroup bytes (now (from .entry)) (now (to .entry)) n) e ⌝ }
 {
-    let at = JOB_HEAD + KIND_BITS * (n as usize);
+    let at = links_at(n);
     let count = e as usize;
     let mut i: usize = 0;
     while i < count {
@@ -172,7 +191,7 @@ fn job_tables_fault(bytes: usize, j: Job) -> u32
     let copies = j.copies;
     let times = j.times;
     let intervals = j.intervals;
-    let at = JOB_HEAD + KIND_BITS * (j.n as usize) + LINK_BITS * (j.e as usize);
+    let at = types_at(j.n, j.e);
     let links = links_fault(bytes, &from, &to, j.n, j.e);
     or_else(
         links,
@@ -184,34 +203,37 @@ fn job_tables_fault(bytes: usize, j: Job) -> u32
 fn job_body_fault(s: &[u8], j: Job) -> u32
     ensures { λ r. ⌜ r ≡ jobBodyFault (now (s .entry)) j ⌝ }
 {
-    let links = JOB_HEAD + KIND_BITS * (j.n as usize);
-    let end = links + LINK_BITS * (j.e as usize) + TYPE_BITS * (j.m as usize);
-    let tables = or_else(job_tables_fault(s.len(), j), fill_fault(s, end));
-    or_else(runs_out(s.len(), links), tables)
+    let kinds = runs_out(s.len(), links_at(j.n));
+    let fill = fill_fault(s, job_end(j.n, j.e, j.m));
+    or_else(kinds, or_else(job_tables_fault(s.len(), j), fill))
 }
 
 // The job of n operations, e links and m types that a sheet spells.
-fn job_of(s: &[u8], n: usize, e: usize, m: usize) -> Job
+fn job_of(s: &[u8], n: u16, e: u16, m: u16) -> Job
     requires { ⌜ (n ≤ maxOps) × (e ≤ maxLinks) × (m ≤ maxTypes) ⌝ }
     ensures { λ r. ⌜ r ≡ jobOf (now (s .entry)) n e m ⌝ }
 {
-    let links = JOB_HEAD + KIND_BITS * n;
-    let types = links + LINK_BITS * e;
+    let ops = n as usize;
+    let links = links_at(n);
+    let link_count = e as usize;
+    let types = types_at(n, e);
+    let type_count = m as usize;
     let pairs = types + TYPE_HEAD;
+    let pair_count = KIND_COUNT * type_count;
     Job {
-        n: n as u16,
-        e: e as u16,
-        m: m as u16,
+        n,
+        e,
+        m,
         t: bits::field(s, T_AT, STEP_BITS) as u16,
         clock: bits::field(s, CLOCK_AT, TIME_BITS) as u16,
         wire: bits::field(s, WIRE_AT, TIME_BITS) as u16,
-        kinds: op_column(s, JOB_HEAD, KIND_BITS, KIND_BITS, n),
-        from: link_column(s, links, LINK_BITS, OP_BITS, e),
-        to: link_column(s, links + OP_BITS, LINK_BITS, OP_BITS, e),
-        costs: type_column(s, types, TYPE_BITS, COST_BITS, m),
-        copies: type_column(s, types + COST_BITS, TYPE_BITS, COPIES_BITS, m),
-        times: pair_column(s, pairs, KIND_COUNT * m),
-        intervals: pair_column(s, pairs + TIME_BITS, KIND_COUNT * m),
+        kinds: op_column(s, JOB_HEAD, KIND_BITS, KIND_BITS, ops),
+        from: link_column(s, links, LINK_BITS, OP_BITS, link_count),
+        to: link_column(s, links + OP_BITS, LINK_BITS, OP_BITS, link_count),
+        costs: type_column(s, types, TYPE_BITS, COST_BITS, type_count),
+        copies: type_column(s, types + COST_BITS, TYPE_BITS, COPIES_BITS, type_count),
+        times: pair_column(s, pairs, pair_count),
+        intervals: pair_column(s, pairs + TIME_BITS, pair_count),
     }
 }
 
@@ -220,9 +242,9 @@ fn job_in(s: &[u8]) -> Job
     requires { ⌜ jobHeadFault (now s) ≡ 0 ⌝ }
     ensures { λ r. ⌜ r ≡ jobIn (now (s .entry)) ⌝ }
 {
-    let n = bits::field(s, N_AT, OP_BITS) as usize;
-    let e = bits::field(s, E_AT, LINK_COUNT_BITS) as usize;
-    let m = bits::field(s, M_AT, TYPE_COUNT_BITS) as usize;
+    let n = bits::field(s, N_AT, OP_BITS) as u16;
+    let e = bits::field(s, E_AT, LINK_COUNT_BITS) as u16;
+    let m = bits::field(s, M_AT, TYPE_COUNT_BITS) as u16;
     job_of(s, n, e, m)
 }
 
@@ -305,19 +327,11 @@ fn job_fits(j: Job) -> bool
     (j.t <= MAX_STEPS) & (j.wire <= MAX_TIME) & kinds_fit & graph_blank(j) & units_blank(j)
 }
 
-// The bits of the job's sheet.
-fn job_end(j: Job) -> usize
-    ensures { λ r. ⌜ r ≡ jobEnd (j .n) (j .e) (j .m) ⌝ }
-{
-    let types = JOB_HEAD + KIND_BITS * (j.n as usize) + LINK_BITS * (j.e as usize);
-    types + TYPE_BITS * (j.m as usize)
-}
-
 // The first fault of a record to be written.
 fn job_record_fault(j: Job) -> u32
     ensures { λ r. ⌜ r ≡ jobRecordFault j ⌝ }
 {
-    let bytes = (job_end(j) + 7) / 8;
+    let bytes = bits::bytes_for(job_end(j.n, j.e, j.m));
     let fits = fault_unless(job_fits(j), basics::RECORD_BROKEN);
     or_else(
         job_counts_fault(j.n, j.e, j.m, j.clock),
@@ -395,18 +409,11 @@ fn put_graph(out: &mut [u8], j: Job)
     let kinds = j.kinds;
     let from = j.from;
     let to = j.to;
+    let links = links_at(j.n);
     let n = j.n as usize;
+    let e = j.e as usize;
     put_singles(out, JOB_HEAD, KIND_BITS, &kinds, n);
-    put_doubles(
-        out,
-        JOB_HEAD + KIND_BITS * n,
-        OP_BITS,
-        &from,
-        OP_BITS,
-        &to,
-        0,
-        j.e as usize,
-    );
+    put_doubles(out, links, OP_BITS, &from, OP_BITS, &to, 0, e);
 }
 
 // Puts the types behind the links.
@@ -418,7 +425,7 @@ fn put_units(out: &mut [u8], j: Job)
     let copies = j.copies;
     let times = j.times;
     let intervals = j.intervals;
-    let at = JOB_HEAD + KIND_BITS * (j.n as usize) + LINK_BITS * (j.e as usize);
+    let at = types_at(j.n, j.e);
     put_types(out, at, &costs, &copies, &times, &intervals, j.m as usize);
 }
 
@@ -433,8 +440,8 @@ pub fn write_job(job: Job, out: &mut [u8]) -> Written
             paper: basics::PAPER_JOB,
         };
     }
-    let end = job_end(job);
-    let length = (end + 7) / 8;
+    let end = job_end(job.n, job.e, job.m);
+    let length = bits::bytes_for(end);
     if out.len() < length {
         return Written::Refused {
             number: basics::OUTPUT_SHORT,

@@ -191,7 +191,7 @@ pub fn write_plan(plan: Plan, out: &mut [u8]) -> Written
         };
     }
     let end = plan_end(plan.n, plan.k);
-    let length = (end + 7) / 8;
+    let length = bits::bytes_for(end);
     if out.len() < length {
         return Written::Refused {
             number: basics::OUTPUT_SHORT,

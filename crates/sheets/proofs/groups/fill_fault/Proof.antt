@@ -4,8 +4,8 @@ use Rattle.sheets.specs.Groups.{fillFault}
 use Rattle.sheets.proofs.groups.fill_fault.Statement.{statement}
 use Rattle.sheets.proofs.groups.fill_fault.Tie as tie
 
-add-bytes : tie.Need-add-bytes
-add-bytes c = search needs
+bytes-for-requires : tie.Need-bytes-for-requires
+bytes-for-requires c κs = search needs
 
 mul-field : tie.Need-mul-field
 mul-field c = search needs
@@ -21,8 +21,9 @@ fault-unless-requires c κs = search needs
 
 returns : tie.Need-returns
 unfolding fillFault
-returns c = simp (c .fault-unless .ensures, c .before .field .ensures .0)
+returns c = simp (c .fault-unless .ensures, c .before .field .ensures .0, c .before .before .bytes-for .ensures)
 
 pub fill-fault-spec : {M : Type 1} → statement M
 fill-fault-spec =
-    tie.close (tie.spec add-bytes mul-field sub-field field-requires fault-unless-requires returns)
+    tie.close
+    (tie.spec bytes-for-requires mul-field sub-field field-requires fault-unless-requires returns)

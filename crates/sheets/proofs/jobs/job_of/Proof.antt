@@ -1,32 +1,21 @@
 -- Each field and each column is the definition's.
+use native.Mathlib.Omega.{arith}
 use borrow.Author.Needs.{needs}
 use Rattle.sheets.specs.JobSheet.{jobOf}
 use Rattle.sheets.proofs.jobs.job_of.Statement.{statement}
 use Rattle.sheets.proofs.jobs.job_of.Tie as tie
 
-mul-links : tie.Need-mul-links
-mul-links c = search needs
+links-at-requires : tie.Need-links-at-requires
+links-at-requires c κs = search needs
 
-add-links : tie.Need-add-links
-add-links c = search needs
-
-mul-types : tie.Need-mul-types
-mul-types c = search needs
-
-add-types : tie.Need-add-types
-add-types c = search needs
+types-at-requires : tie.Need-types-at-requires
+types-at-requires c κs = search needs
 
 add-pairs : tie.Need-add-pairs
 add-pairs c = search needs
 
-cast-t9 : tie.Need-cast-t9
-cast-t9 c = search needs
-
-cast-t10 : tie.Need-cast-t10
-cast-t10 c = search needs
-
-cast-t11 : tie.Need-cast-t11
-cast-t11 c = search needs
+mul-pair-count : tie.Need-mul-pair-count
+mul-pair-count c = search needs
 
 field-requires : tie.Need-field-requires
 field-requires c κs = search needs
@@ -67,20 +56,23 @@ add-type-column c = search needs
 type-column-requires-2 : tie.Need-type-column-requires-2
 type-column-requires-2 c κs = search needs
 
-mul-pair-column : tie.Need-mul-pair-column
-mul-pair-column c = search needs
-
 pair-column-requires : tie.Need-pair-column-requires
-pair-column-requires c κs = search needs
+pair-column-requires c κs =
+    let b8 = c .before .before .before .before .before .before .before .before in
+    let b11 = b8 .before .before .before in
+    omega (arith, b8 .types-at .ensures, b11 .pre)
 
 add-pair-column : tie.Need-add-pair-column
-add-pair-column c = search needs
-
-mul-pair-column-2 : tie.Need-mul-pair-column-2
-mul-pair-column-2 c = search needs
+add-pair-column c =
+    let b9 = c .before .before .before .before .before .before .before .before .before in
+    let b12 = b9 .before .before .before in
+    omega (arith, b9 .types-at .ensures, b12 .pre)
 
 pair-column-requires-2 : tie.Need-pair-column-requires-2
-pair-column-requires-2 c κs = search needs
+pair-column-requires-2 c κs =
+    let b9 = c .before .before .before .before .before .before .before .before .before in
+    let b12 = b9 .before .before .before in
+    omega (arith, b9 .types-at .ensures, b12 .pre)
 
 returns : tie.Need-returns
 unfolding jobOf
@@ -93,20 +85,18 @@ returns c =
     let b7 = b6 .before in
     let b8 = b7 .before in
     let b9 = b8 .before in
-    simp (c .pair-column2 .ensures, c .before .pair-column .ensures, b2 .type-column2 .ensures, b3 .type-column .ensures, b4 .link-column2 .ensures, b5 .link-column .ensures, b6 .op-column .ensures, b7 .field3 .ensures .0, b8 .field2 .ensures .0, b9 .field .ensures .0)
+    let b10 = b9 .before in
+    let b11 = b10 .before in
+    simp (c .pair-column2 .ensures, c .before .pair-column .ensures, b2 .type-column2 .ensures, b3 .type-column .ensures, b4 .link-column2 .ensures, b5 .link-column .ensures, b6 .op-column .ensures, b7 .field3 .ensures .0, b8 .field2 .ensures .0, b9 .field .ensures .0, b10 .types-at .ensures, b11 .links-at .ensures)
 
 pub job-of-spec : {M : Type 1} → statement M
 job-of-spec =
     tie.close
     (tie.spec
-    mul-links
-    add-links
-    mul-types
-    add-types
+    links-at-requires
+    types-at-requires
     add-pairs
-    cast-t9
-    cast-t10
-    cast-t11
+    mul-pair-count
     field-requires
     cast-t13
     field-requires-2
@@ -120,9 +110,7 @@ job-of-spec =
     type-column-requires
     add-type-column
     type-column-requires-2
-    mul-pair-column
     pair-column-requires
     add-pair-column
-    mul-pair-column-2
     pair-column-requires-2
     returns)

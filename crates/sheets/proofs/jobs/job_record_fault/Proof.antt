@@ -11,8 +11,8 @@ use Rattle.sheets.proofs.jobs.job_record_fault.Tie as tie
 job-end-requires : tie.Need-job-end-requires
 job-end-requires c κs = search needs
 
-add-bytes : tie.Need-add-bytes
-add-bytes c = search needs
+bytes-for-requires : tie.Need-bytes-for-requires
+bytes-for-requires c κs = search needs
 
 job-fits-requires : tie.Need-job-fits-requires
 job-fits-requires c κs = search needs
@@ -41,16 +41,17 @@ returns c =
     let b5 = b4 .before in
     let b6 = b5 .before in
     let b7 = b6 .before in
-    let j = b7 .args .j in
+    let b8 = b7 .before in
+    let j = b8 .args .j in
     let r = tables-rules j (bytesFor (jobEnd (j .n) (j .e) (j .m))) (omega arith) in
-    simp (c .or-else2 .ensures, c .before .or-else .ensures, b2 .job-tables-fault .ensures, b3 .job-counts-fault .ensures, b4 .fault-unless .ensures, b5 .job-fits .ensures, b6 .job-end .ensures, r)
+    simp (c .or-else2 .ensures, c .before .or-else .ensures, b2 .job-tables-fault .ensures, b3 .job-counts-fault .ensures, b4 .fault-unless .ensures, b5 .job-fits .ensures, b6 .bytes-for .ensures, b7 .job-end .ensures, r)
 
 pub job-record-fault-spec : {M : Type 1} → statement M
 job-record-fault-spec =
     tie.close
     (tie.spec
     job-end-requires
-    add-bytes
+    bytes-for-requires
     job-fits-requires
     fault-unless-requires
     job-counts-fault-requires

@@ -15,20 +15,18 @@ Inv-loop bytes from to n e at count i₀ i = (i ≤ count) × (first (linkGroup 
 abbrev μ-loop : tie.MeasureT-loop
 μ-loop bytes from to n e at count i₀ i = count - i
 
-mul-at : tie.Need-mul-at Inv-loop μ-loop
-mul-at c = omega arith
-
-add-at : tie.Need-add-at Inv-loop μ-loop
-add-at c = omega arith
+links-at-requires : tie.Need-links-at-requires Inv-loop μ-loop
+links-at-requires c κs = search needs
 
 -- the fault of the link that a turn tests
 turn : (c : tie.After-or-else Inv-loop μ-loop)
     → c .or-else .result
-    ≡ linkGroup (c .before .before .before .before .before .before .before .args .bytes) (c .before .before .before .before .before .before .before .args .from .now) (c .before .before .before .before .before .before .before .args .to .now) (c .before .before .before .before .before .before .before .args .n) (c .before .before .before .before .loop .i)
+    ≡ linkGroup (c .before .before .before .before .before .before .before .before .args .bytes) (c .before .before .before .before .before .before .before .before .args .from .now) (c .before .before .before .before .before .before .before .before .args .to .now) (c .before .before .before .before .before .before .before .before .args .n) (c .before .before .before .before .loop .i)
 unfolding linkGroup
 turn c =
     let b2 = c .before .before in
-    simp (c .or-else .ensures, c .before .link-fault .ensures, b2 .runs-out .ensures)
+    let b5 = b2 .before .before .before in
+    simp (c .or-else .ensures, c .before .link-fault .ensures, b2 .runs-out .ensures, b5 .links-at .ensures)
 
 loop-holds : tie.Need-loop-holds Inv-loop μ-loop
 unfolding first
@@ -66,7 +64,8 @@ loop-again c = (omega arith, first-more _ _ (c .before .before .before .before .
 
 returns-2 : tie.Need-returns-2 Inv-loop μ-loop
 returns-2 c =
-    let e : c .before .loop .i ≡ c .before .before .before .before .args .e = omega arith in
+    let b5 = c .before .before .before .before .before in
+    let e : c .before .loop .i ≡ b5 .args .e = omega arith in
     sym (rw e at (c .before .loop .inv .1))
 
 pub links-fault-spec : {M : Type 1} → statement M
@@ -75,8 +74,7 @@ links-fault-spec =
     (tie.spec
     Inv-loop
     μ-loop
-    mul-at
-    add-at
+    links-at-requires
     loop-holds
     add-runs-out
     mul-runs-out

@@ -1,6 +1,6 @@
 -- A fault or a short output stops before the first put; else head, graph, units and fill make the sheet.
-use Prim.Native.Nat.{ℕ, _≤_, _<_}
-use mathlib.Core.Path.{sym, _∙_}
+use Prim.Native.Nat.{ℕ, _≤_}
+use mathlib.Core.Path.{sym, ap, _∙_}
 use native.Mathlib.Omega.{arith}
 use borrow.Author.Needs.{needs}
 use denote.Ref.{now}
@@ -29,20 +29,21 @@ returns c =
 job-end-requires : tie.Need-job-end-requires
 job-end-requires c κs = search needs
 
-add-length : tie.Need-add-length
-add-length c = search needs
+bytes-for-requires : tie.Need-bytes-for-requires
+bytes-for-requires c κs = search needs
 
 returns-2 : tie.Need-returns-2
 unfolding writeJob jobOut
 returns-2 c =
     let b2 = c .before .before in
     let b3 = b2 .before in
-    let b5 = b3 .before .before in
-    let a = b5 .args in
+    let b4 = b3 .before in
+    let b6 = b4 .before .before in
+    let a = b6 .args in
     let j = a .job in
-    let z = sym (b3 .job-record-fault .ensures) ∙ b2 .if1 .left in
-    let s : length (now (a .out)) < bytesFor (jobEnd (j .n) (j .e) (j .m)) = rw (← c .before .job-end .ensures) (c .if2 .taken) in
-    writes-short _ _ _ (jobSheet j) (now (a .out)) z s
+    let z = sym (b4 .job-record-fault .ensures) ∙ b3 .if1 .left in
+    let e = c .before .bytes-for .ensures ∙ ap (λ (k : ℕ). bytesFor k) (b2 .job-end .ensures) in
+    writes-short _ _ _ (jobSheet j) (now (a .out)) z (rw (← e) (c .if2 .taken))
 
 put-job-head-requires : tie.Need-put-job-head-requires
 put-job-head-requires c κs = search needs
@@ -65,7 +66,9 @@ put-requires c κs =
     let b7 = b3 .before .before .before .before in
     let b11 = b7 .before .before .before .before in
     let b14 = b11 .before .before .before in
-    let e = b14 .job-end .ensures in
+    let b15 = b14 .before in
+    let e = b14 .bytes-for .ensures in
+    let d = b15 .job-end .ensures in
     (omega arith, rw (b3 .put-units .kept .0, b7 .put-graph .kept .0, b11 .put-job-head .kept .0) (omega arith), pow-pos _)
 
 cast-t18 : tie.Need-cast-t18
@@ -85,16 +88,18 @@ returns-3 c =
     let b18 = b17 .before in
     let b19 = b18 .before in
     let b20 = b19 .before in
-    let s = b20 .before in
+    let b21 = b20 .before in
+    let s = b21 .before in
     let a = s .args in
     let j = a .job in
-    let z = sym (b19 .job-record-fault .ensures) ∙ b18 .if1 .left in
-    let e = b17 .job-end .ensures in
-    let l : bytesFor (jobEnd (j .n) (j .e) (j .m)) ≤ length (now (a .out)) = omega arith in
+    let z = sym (b20 .job-record-fault .ensures) ∙ b19 .if1 .left in
+    let d = b18 .job-end .ensures in
+    let e = b17 .bytes-for .ensures in
+    let l : bytesFor (jobEnd (j .n) (j .e) (j .m)) ≤ length (now (a .out)) = rw (← d, ← e) (omega arith) in
     let k : (y : ℕ) → Fits w16 (cell (j .costs) y) = λ y. search (needs, s .good .0 .1 .1 .1 .1 .1 .1 .1 .1 .1 .1 .1 .0) in
-    rw e (writes-sheet _ _ _ (jobSheet j) (now (a .out)) _ z l
-    (rw (b2 .put .ensures, b6 .put-units .ensures, b10 .put-graph .ensures, b14 .put-job-head .ensures, e)
-    (put-job j (none-record j z) (λ y. k y .fits) (now (a .out)) (λ i. b20 .slice-known .given i .fits) l)))
+    rw (e, d) (writes-sheet _ _ _ (jobSheet j) (now (a .out)) _ z l
+    (rw (b2 .put .ensures, b6 .put-units .ensures, b10 .put-graph .ensures, b14 .put-job-head .ensures, e, d)
+    (put-job j (none-record j z) (λ y. k y .fits) (now (a .out)) (λ i. b21 .slice-known .given i .fits) l)))
 
 pub write-job-spec : {M : Type 1} → statement M
 write-job-spec =
@@ -103,7 +108,7 @@ write-job-spec =
     job-record-fault-requires
     returns
     job-end-requires
-    add-length
+    bytes-for-requires
     returns-2
     put-job-head-requires
     put-graph-requires

@@ -1,6 +1,6 @@
 -- A fault or a short output stops before the first put; else the fields and the fill make the sheet.
-use Prim.Native.Nat.{_≤_, _<_}
-use mathlib.Core.Path.{sym, _∙_}
+use Prim.Native.Nat.{ℕ, _≤_}
+use mathlib.Core.Path.{sym, ap, _∙_}
 use native.Mathlib.Omega.{arith}
 use borrow.Author.Needs.{needs}
 use denote.Ref.{now}
@@ -25,20 +25,20 @@ returns c =
 plan-end-requires : tie.Need-plan-end-requires
 plan-end-requires c κs = search needs
 
-add-length : tie.Need-add-length
-add-length c = search needs
+bytes-for-requires : tie.Need-bytes-for-requires
+bytes-for-requires c κs = search needs
 
 returns-2 : tie.Need-returns-2
 unfolding writePlan planOut
 returns-2 c =
     let b2 = c .before .before in
     let b3 = b2 .before in
-    let b5 = b3 .before .before in
-    let a = b5 .args in
-    let p = a .plan in
-    let z = sym (b3 .plan-record-fault .ensures) ∙ b2 .if1 .left in
-    let s : length (now (a .out)) < bytesFor (planEnd (p .n) (p .k)) = rw (← c .before .plan-end .ensures) (c .if2 .taken) in
-    writes-short _ _ _ (planSheet p) (now (a .out)) z s
+    let b4 = b3 .before in
+    let b6 = b4 .before .before in
+    let a = b6 .args in
+    let z = sym (b4 .plan-record-fault .ensures) ∙ b3 .if1 .left in
+    let e = c .before .bytes-for .ensures ∙ ap (λ (k : ℕ). bytesFor k) (b2 .plan-end .ensures) in
+    writes-short _ _ _ (planSheet (a .plan)) (now (a .out)) z (rw (← e) (c .if2 .taken))
 
 put-plan-requires : tie.Need-put-plan-requires
 put-plan-requires c κs = search needs
@@ -53,7 +53,9 @@ put-requires : tie.Need-put-requires
 put-requires c κs =
     let b3 = c .before .before .before in
     let b6 = b3 .before .before .before in
-    let e = b6 .plan-end .ensures in
+    let b7 = b6 .before in
+    let e = b6 .bytes-for .ensures in
+    let d = b7 .plan-end .ensures in
     (omega arith, rw (b3 .put-plan .kept .0) (omega arith), pow-pos _)
 
 cast-t14 : tie.Need-cast-t14
@@ -72,13 +74,15 @@ returns-3 c =
     let b11 = b10 .before in
     let b12 = b11 .before in
     let b13 = b12 .before in
-    let a = b13 .args in
+    let s = b13 .before in
+    let a = s .args in
     let p = a .plan in
-    let z = sym (b11 .plan-record-fault .ensures) ∙ b10 .if1 .left in
-    let e = b9 .plan-end .ensures in
-    let l : bytesFor (planEnd (p .n) (p .k)) ≤ length (now (a .out)) = omega arith in
-    rw e (writes-sheet _ _ _ (planSheet p) (now (a .out)) _ z l
-    (rw (b2 .put .ensures, b6 .put-plan .ensures, e) (put-plan p (none-plan p z) (now (a .out)) (λ i. b12 .slice-known .given i .fits) l)))
+    let z = sym (b12 .plan-record-fault .ensures) ∙ b11 .if1 .left in
+    let d = b10 .plan-end .ensures in
+    let e = b9 .bytes-for .ensures in
+    let l : bytesFor (planEnd (p .n) (p .k)) ≤ length (now (a .out)) = rw (← d, ← e) (omega arith) in
+    rw (e, d) (writes-sheet _ _ _ (planSheet p) (now (a .out)) _ z l
+    (rw (b2 .put .ensures, b6 .put-plan .ensures, e, d) (put-plan p (none-plan p z) (now (a .out)) (λ i. b13 .slice-known .given i .fits) l)))
 
 pub write-plan-spec : {M : Type 1} → statement M
 write-plan-spec =
@@ -87,7 +91,7 @@ write-plan-spec =
     plan-record-fault-requires
     returns
     plan-end-requires
-    add-length
+    bytes-for-requires
     returns-2
     put-plan-requires
     mul-put
