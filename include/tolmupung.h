@@ -2,7 +2,9 @@
  *
  * Every entry takes any bytes and any numbers, and ends. A refusal gives its number and the paper at fault,
  * and changes no output byte. Nothing here allocates, and nothing is kept between calls.
- * A pointer that is NULL is taken for no bytes at all, whatever length comes with it.
+ * A pointer points to as many bytes as the length beside it says. NULL is taken for no bytes at all, whatever
+ * length comes with it; the functions at the end of this header see to that, so a program that calls the
+ * library's symbols without including it must not pass NULL.
  */
 #ifndef TOLMUPUNG_H
 #define TOLMUPUNG_H
@@ -14,13 +16,14 @@
 extern "C" {
 #endif
 
-/* Limits of a record, and the most bytes that a sheet of each form has. */
+/* Cells of a record's tables, and the most bytes that a sheet of each form has. */
 enum {
-    TOLMUPUNG_MAX_OPS = 24,
-    TOLMUPUNG_MAX_LINKS = 64,
-    TOLMUPUNG_MAX_TYPES = 8,
-    TOLMUPUNG_MAX_INSTANCES = 16,
+    TOLMUPUNG_OP_CELLS = 24,
+    TOLMUPUNG_LINK_CELLS = 64,
+    TOLMUPUNG_TYPE_CELLS = 8,
+    TOLMUPUNG_INST_CELLS = 16,
     TOLMUPUNG_KINDS = 8,
+    TOLMUPUNG_PAIR_CELLS = TOLMUPUNG_TYPE_CELLS * TOLMUPUNG_KINDS,
     TOLMUPUNG_JOB_BYTES = 274,
     TOLMUPUNG_PLAN_BYTES = 31
 };
@@ -35,6 +38,18 @@ enum {
     TOLMUPUNG_CHEAPEST = 5,
     TOLMUPUNG_WRITTEN = 6,
     TOLMUPUNG_READ = 7
+};
+
+/* The number of a refusal. */
+enum {
+    TOLMUPUNG_BITS_RUN_OUT = 1,
+    TOLMUPUNG_FORM_DIFFERS = 2,
+    TOLMUPUNG_OUTSIDE_LIMIT = 3, /* N, E, M, K or clock */
+    TOLMUPUNG_LINK_BROKEN = 4,
+    TOLMUPUNG_TYPE_BROKEN = 5,   /* or copies so far exceed 16 */
+    TOLMUPUNG_FILL_BROKEN = 6,   /* not zero, or bytes follow */
+    TOLMUPUNG_RECORD_BROKEN = 7, /* T, wire, a kind, a selection cell or a row's number too wide, or an unused cell not zero */
+    TOLMUPUNG_OUTPUT_SHORT = 22
 };
 
 /* The paper at fault. */
@@ -53,28 +68,28 @@ typedef struct {
 
 /* A job. Every cell is a 16-bit number, as wide as the widest field; cells that the counts do not use are zero. */
 typedef struct {
-    uint16_t n;             /* operations */
-    uint16_t e;             /* links */
-    uint16_t m;             /* unit types */
-    uint16_t t;             /* deadline, in steps */
-    uint16_t clock;         /* ns */
-    uint16_t wire;          /* ns */
-    uint16_t kinds[24];     /* of each operation */
-    uint16_t from[64];      /* link i runs from operation from[i] .. */
-    uint16_t to[64];        /* .. to operation to[i] */
-    uint16_t costs[8];      /* of each type */
-    uint16_t copies[8];     /* of each type */
-    uint16_t times[64];     /* of kind k at type y: cell 8 * y + k, in ns; 0 where it cannot be done */
-    uint16_t intervals[64]; /* likewise */
+    uint16_t n;                               /* operations */
+    uint16_t e;                               /* links */
+    uint16_t m;                               /* unit types */
+    uint16_t t;                               /* deadline, in steps */
+    uint16_t clock;                           /* ns */
+    uint16_t wire;                            /* ns */
+    uint16_t kinds[TOLMUPUNG_OP_CELLS];       /* of each operation */
+    uint16_t from[TOLMUPUNG_LINK_CELLS];      /* link i runs from operation from[i] .. */
+    uint16_t to[TOLMUPUNG_LINK_CELLS];        /* .. to operation to[i] */
+    uint16_t costs[TOLMUPUNG_TYPE_CELLS];     /* of each type */
+    uint16_t copies[TOLMUPUNG_TYPE_CELLS];    /* of each type */
+    uint16_t times[TOLMUPUNG_PAIR_CELLS];     /* kind k at type y: cell 8 * y + k; ns, 0: cannot be done */
+    uint16_t intervals[TOLMUPUNG_PAIR_CELLS]; /* likewise */
 } tolmupung_job;
 
 /* A plan, with cells likewise. */
 typedef struct {
-    uint16_t n;             /* operations, a row each */
-    uint16_t k;             /* instances */
-    uint16_t selection[16]; /* of each instance: 1 selected, 0 not */
-    uint16_t starts[24];    /* of each row */
-    uint16_t insts[24];     /* of each row: the instance that does the operation */
+    uint16_t n;                               /* operations, a row each */
+    uint16_t k;                               /* instances */
+    uint16_t selection[TOLMUPUNG_INST_CELLS]; /* of each instance: 1 selected, 0 not */
+    uint16_t starts[TOLMUPUNG_OP_CELLS];      /* of each row */
+    uint16_t insts[TOLMUPUNG_OP_CELLS];       /* of each row: the instance that does the operation */
 } tolmupung_plan;
 
 /* What a reader gives: outcome read and the record, or refused and a record of zeros. */

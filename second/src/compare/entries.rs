@@ -85,7 +85,7 @@ impl Comparison {
         self.tally.round_trips += 1;
         let input = || format!("the sheet of {record:?}\nread, and the record read written");
         let own = (record, Answer::written(sheet.len()), sheet);
-        agree(F::READER, input, &own, &(read, answer, output))
+        agree(F::WRITER, input, &own, &(read, answer, output))
     }
 
     /// An output and its margins: no byte is zero, and each comparison finds other bytes there.

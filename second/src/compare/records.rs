@@ -14,7 +14,7 @@ use crate::sheet::Form;
 /// More than any sheet needs.
 const ROOMY: usize = 300;
 
-/// The first number that 16 bits take for none.
+/// The first length whose low 16 bits are zero.
 const VAST: usize = 0x1_0000;
 
 /// Every limit, the number beyond it, a number whose low byte is zero, and the largest number of a cell.

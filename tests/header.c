@@ -1,0 +1,120 @@
+/* The header against the library: the records' layout, all four entries with every cell told apart, and NULL.
+ * Compiled as C and as C++. It prints each check that fails, and gives status 1 if one did. */
+#include <stddef.h>
+#include <stdio.h>
+#include <string.h>
+
+#include "tolmupung.h"
+
+static int failed = 0;
+
+static void check(int holds, const char *what)
+{
+    if (!holds) {
+        printf("does not hold: %s\n", what);
+        failed = 1;
+    }
+}
+
+static int answers(tolmupung_answer a, uint32_t outcome, uint32_t number, uint32_t paper, uint32_t length)
+{
+    return a.outcome == outcome && a.number == number && a.paper == paper && a.cost == 0 && a.visits == 0 &&
+           a.length == length;
+}
+
+static void layout(void)
+{
+    check(sizeof(tolmupung_answer) == 24, "an answer is six 32-bit numbers");
+    check(sizeof(tolmupung_job) == 604 && offsetof(tolmupung_job, kinds) == 12, "a job is 302 numbers of 16 bits");
+    check(sizeof(tolmupung_plan) == 132 && offsetof(tolmupung_plan, selection) == 4, "a plan is 66 numbers of 16 bits");
+    check(offsetof(tolmupung_job_read, job) == 24 && offsetof(tolmupung_plan_read, plan) == 24,
+          "the record follows the answer");
+}
+
+/* A job whose every used cell differs from its neighbours, so that no two tables can be taken for one another. */
+static tolmupung_job some_job(void)
+{
+    tolmupung_job job;
+    int c;
+    memset(&job, 0, sizeof job);
+    job.n = 4, job.e = 3, job.m = 2, job.t = 9, job.clock = 101, job.wire = 7;
+    for (c = 0; c < 4; c++)
+        job.kinds[c] = (uint16_t)(c + 2);
+    for (c = 0; c < 3; c++)
+        job.from[c] = (uint16_t)c, job.to[c] = (uint16_t)(c + 1);
+    for (c = 0; c < 2; c++)
+        job.costs[c] = (uint16_t)(65535 - c), job.copies[c] = (uint16_t)(c + 3);
+    for (c = 0; c < 16; c++)
+        job.times[c] = (uint16_t)(1023 - c), job.intervals[c] = (uint16_t)(c + 1);
+    return job;
+}
+
+static tolmupung_plan some_plan(void)
+{
+    tolmupung_plan plan;
+    int c;
+    memset(&plan, 0, sizeof plan);
+    plan.n = 5, plan.k = 6;
+    for (c = 0; c < 6; c++)
+        plan.selection[c] = (uint16_t)(c % 2);
+    for (c = 0; c < 5; c++)
+        plan.starts[c] = (uint16_t)(31 - c), plan.insts[c] = (uint16_t)(c + 9);
+    return plan;
+}
+
+static void jobs(void)
+{
+    uint8_t sheet[TOLMUPUNG_JOB_BYTES];
+    tolmupung_job job = some_job();
+    tolmupung_answer a = tolmupung_write_job(job, sheet, sizeof sheet);
+    check(answers(a, TOLMUPUNG_WRITTEN, 0, 0, (45 + 3 * 4 + 10 * 3 + 179 * 2 + 7) / 8), "a job is written");
+    tolmupung_job_read r = tolmupung_read_job(sheet, a.length);
+    check(answers(r.answer, TOLMUPUNG_READ, 0, 0, 0), "a job is read");
+    check(memcmp(&r.job, &job, sizeof job) == 0, "the job read is the job written");
+    check(answers(tolmupung_read_plan(sheet, a.length).answer, TOLMUPUNG_REFUSED, TOLMUPUNG_FORM_DIFFERS,
+                  TOLMUPUNG_PAPER_PLAN, 0),
+          "a job's sheet is no plan's");
+}
+
+static void plans(void)
+{
+    uint8_t sheet[TOLMUPUNG_PLAN_BYTES];
+    tolmupung_plan plan = some_plan();
+    tolmupung_answer a = tolmupung_write_plan(plan, sheet, sizeof sheet);
+    check(answers(a, TOLMUPUNG_WRITTEN, 0, 0, (14 + 6 + 9 * 5 + 7) / 8), "a plan is written");
+    tolmupung_plan_read r = tolmupung_read_plan(sheet, a.length);
+    check(answers(r.answer, TOLMUPUNG_READ, 0, 0, 0), "a plan is read");
+    check(memcmp(&r.plan, &plan, sizeof plan) == 0, "the plan read is the plan written");
+    plan.starts[0] = 32;
+    check(answers(tolmupung_write_plan(plan, sheet, sizeof sheet), TOLMUPUNG_REFUSED, TOLMUPUNG_RECORD_BROKEN,
+                  TOLMUPUNG_PAPER_PLAN, 0),
+          "a start of 32 is too wide");
+}
+
+static void nothing(void)
+{
+    size_t length;
+    for (length = 0; length < 400; length += 399) {
+        check(answers(tolmupung_read_job(NULL, length).answer, TOLMUPUNG_REFUSED, TOLMUPUNG_BITS_RUN_OUT,
+                      TOLMUPUNG_PAPER_JOB, 0),
+              "NULL read as a job");
+        check(answers(tolmupung_read_plan(NULL, length).answer, TOLMUPUNG_REFUSED, TOLMUPUNG_BITS_RUN_OUT,
+                      TOLMUPUNG_PAPER_PLAN, 0),
+              "NULL read as a plan");
+        check(answers(tolmupung_write_job(some_job(), NULL, length), TOLMUPUNG_REFUSED, TOLMUPUNG_OUTPUT_SHORT,
+                      TOLMUPUNG_PAPER_REQUEST, 0),
+              "a job written to NULL");
+        check(answers(tolmupung_write_plan(some_plan(), NULL, length), TOLMUPUNG_REFUSED, TOLMUPUNG_OUTPUT_SHORT,
+                      TOLMUPUNG_PAPER_REQUEST, 0),
+              "a plan written to NULL");
+    }
+}
+
+int main(void)
+{
+    layout();
+    jobs();
+    plans();
+    nothing();
+    return failed;
+}
