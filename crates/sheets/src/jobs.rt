@@ -6,9 +6,10 @@ ghost use Rattle.basics.specs.Counting.{allTo, sumTo};
 ghost use Rattle.basics.specs.Faults.{first};
 ghost use Rattle.basics.specs.Tables.{cell as cellOf};
 ghost use Rattle.basics.specs.Answers.{Promise};
+ghost use Rattle.bits.specs.Bits.{Bytes};
 ghost use Rattle.bits.specs.Sheet.{many, putAll};
 ghost use Rattle.sheets.specs.Limits.{kindCount, maxOps, maxLinks, maxTypes, maxSteps, maxTime, tAt, jobHead, typeBits};
-ghost use Rattle.sheets.specs.JobRecord.{jobCountsFault, ascends as ascendsAt, linkFault, pairOk, pairSound, typeFault, graphBlank, unitsBlank, jobFits, jobRecordFault};
+ghost use Rattle.sheets.specs.JobRecord.{JobShape, jobCountsFault, ascends as ascendsAt, linkFault, pairOk, pairSound, typeFault, graphBlank, unitsBlank, jobFits, jobRecordFault};
 ghost use Rattle.sheets.specs.JobSheet.{jobOf, jobIn, linksAt, typesAt, jobEnd, jobHeadFault, linkGroup, typeGroup, jobTablesFault, jobBodyFault, jobRefused, readJob, jobCountFields, jobTimeFields, jobHeadFields, typeFields, graphFields, unitFields, TypesFit, writeJob, jobOut};
 use crate::Job;
 use crate::JobRead;
@@ -277,7 +278,8 @@ fn job_refused(fault: u32) -> JobRead
 
 // A job sheet's record, or the number of its first fault and a record of zeros.
 pub fn read_job(sheet: &[u8]) -> JobRead
-    ensures { λ r. ⌜ r ≡ readJob (now (sheet .entry)) ⌝ }
+    ensures read { λ r. ⌜ r ≡ readJob (now (sheet .entry)) ⌝ }
+    ensures bytes { λ _. ⌜ Bytes (now (sheet .entry)) ⌝ }
 {
     let head = job_head_fault(sheet);
     if head != 0 {
@@ -431,7 +433,8 @@ fn put_units(out: &mut [u8], j: Job)
 
 // Writes the job's sheet from the output's first byte on. A refusal changes no byte.
 pub fn write_job(job: Job, out: &mut [u8]) -> Written
-    ensures { λ r. ⌜ Promise (writeJob job (length (now (out .entry)))) (jobOut job (now (out .entry))) r (now (out .exit)) ⌝ }
+    ensures written { λ r. ⌜ Promise (writeJob job (length (now (out .entry)))) (jobOut job (now (out .entry))) r (now (out .exit)) ⌝ }
+    ensures shaped { λ _. ⌜ JobShape job ⌝ }
 {
     let fault = job_record_fault(job);
     if fault != 0 {

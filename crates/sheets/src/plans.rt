@@ -3,9 +3,10 @@ ghost use mathlib.Core.Path.{_≡_};
 ghost use Prim.Native.Nat.{_*_, _≤_};
 ghost use lib.ListN.{length};
 ghost use Rattle.basics.specs.Answers.{Promise};
+ghost use Rattle.bits.specs.Bits.{Bytes};
 ghost use Rattle.bits.specs.Sheet.{putAll};
 ghost use Rattle.sheets.specs.Limits.{maxOps, maxInsts, planHead};
-ghost use Rattle.sheets.specs.PlanSheet.{planEnd, planOf, planIn, planCountsFault, planHeadFault, planBodyFault, planRefused, readPlan, planFits, planRecordFault, planCountFields, planFields, writePlan, planOut};
+ghost use Rattle.sheets.specs.PlanSheet.{PlanShape, planEnd, planOf, planIn, planCountsFault, planHeadFault, planBodyFault, planRefused, readPlan, planFits, planRecordFault, planCountFields, planFields, writePlan, planOut};
 use crate::Plan;
 use crate::PlanRead;
 use crate::Reading;
@@ -101,7 +102,8 @@ fn plan_refused(fault: u32) -> PlanRead
 
 // A plan sheet's record, or the number of its first fault and a record of zeros.
 pub fn read_plan(sheet: &[u8]) -> PlanRead
-    ensures { λ r. ⌜ r ≡ readPlan (now (sheet .entry)) ⌝ }
+    ensures read { λ r. ⌜ r ≡ readPlan (now (sheet .entry)) ⌝ }
+    ensures bytes { λ _. ⌜ Bytes (now (sheet .entry)) ⌝ }
 {
     let head = plan_head_fault(sheet);
     if head != 0 {
@@ -181,7 +183,8 @@ fn put_plan(out: &mut [u8], p: Plan)
 
 // Writes the plan's sheet from the output's first byte on. A refusal changes no byte.
 pub fn write_plan(plan: Plan, out: &mut [u8]) -> Written
-    ensures { λ r. ⌜ Promise (writePlan plan (length (now (out .entry)))) (planOut plan (now (out .entry))) r (now (out .exit)) ⌝ }
+    ensures written { λ r. ⌜ Promise (writePlan plan (length (now (out .entry)))) (planOut plan (now (out .entry))) r (now (out .exit)) ⌝ }
+    ensures shaped { λ _. ⌜ PlanShape plan ⌝ }
 {
     let fault = plan_record_fault(plan);
     if fault != 0 {

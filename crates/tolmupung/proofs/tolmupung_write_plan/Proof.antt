@@ -14,7 +14,7 @@ same-length c = search needs
 
 returns : tie.Need-returns
 returns c =
-    let w = c .before .before .before .write-plan .ensures in
+    let w = c .before .before .before .write-plan .ensures .0 in
     record { told = rw (c .written-says .ensures, w .told); bytes = w .bytes }
 
 pub tolmupung-write-plan-spec : {M : Type 1} → statement M

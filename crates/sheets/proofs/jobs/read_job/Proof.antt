@@ -15,7 +15,9 @@ job-refused-requires c κs = search needs
 
 returns : tie.Need-returns
 unfolding jobFault
-returns c = job-refused _ _ _ (c .job-refused .ensures) (stopped _ _ _ (c .before .before .job-head-fault .ensures) (c .before .if1 .taken)) (c .before .if1 .taken)
+returns c =
+    let b3 = c .before .before .before in
+    (job-refused _ _ _ (c .job-refused .ensures) (stopped _ _ _ (c .before .before .job-head-fault .ensures) (c .before .if1 .taken)) (c .before .if1 .taken), λ i. b3 .shared-slice-known .given i .fits)
 
 job-in-requires : tie.Need-job-in-requires
 job-in-requires c κs = sym (c .before .job-head-fault .ensures) ∙ c .if1 .left
@@ -33,8 +35,9 @@ returns-2 c =
     let b3 = b2 .before in
     let b4 = b3 .before in
     let b5 = b4 .before in
+    let b6 = b5 .before in
     let z = sym (b5 .job-head-fault .ensures) ∙ b4 .if1 .left in
-    job-refused _ _ _ (c .job-refused2 .ensures) (went _ _ _ z (rw (b2 .job-body-fault .ensures, b3 .job-in .ensures))) (c .before .if2 .taken)
+    (job-refused _ _ _ (c .job-refused2 .ensures) (went _ _ _ z (rw (b2 .job-body-fault .ensures, b3 .job-in .ensures))) (c .before .if2 .taken), λ i. b6 .shared-slice-known .given i .fits)
 
 returns-3 : tie.Need-returns-3
 unfolding jobFault
@@ -42,8 +45,9 @@ returns-3 c =
     let b2 = c .before .before in
     let b3 = b2 .before in
     let b4 = b3 .before in
+    let b5 = b4 .before in
     let z = sym (b4 .job-head-fault .ensures) ∙ b3 .if1 .left in
-    job-read _ _ (orElse-go _ _ z ∙ rw (← b2 .job-in .ensures, ← c .before .job-body-fault .ensures) (c .if2 .left)) (b2 .job-in .ensures)
+    (job-read _ _ (orElse-go _ _ z ∙ rw (← b2 .job-in .ensures, ← c .before .job-body-fault .ensures) (c .if2 .left)) (b2 .job-in .ensures), λ i. b5 .shared-slice-known .given i .fits)
 
 pub read-job-spec : {M : Type 1} → statement M
 read-job-spec =

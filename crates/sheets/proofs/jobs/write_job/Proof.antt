@@ -11,11 +11,27 @@ use Rattle.bits.specs.Sheet.{bytesFor}
 use Rattle.sheets.proofs.AnswerLaws.{writes-fault, writes-short, writes-sheet}
 use Rattle.sheets.proofs.JobFieldLaws.{put-job}
 use Rattle.sheets.proofs.RecordLaws.{none-record}
+use Rattle.sheets.specs.JobRecord.{JobShape}
 use Rattle.sheets.specs.JobSheet.{jobEnd, jobSheet, writeJob, jobOut}
 use mir.Syntax.{w16}
 use mir.Val.{Fits}
 use Rattle.sheets.proofs.jobs.write_job.Statement.{statement}
 use Rattle.sheets.proofs.jobs.write_job.Tie as tie
+
+-- what the record's types say
+shape : (s : tie.Start) → JobShape (s .args .job)
+shape s =
+    let k : (y : ℕ) → Fits w16 (cell (s .args .job .costs) y) = λ y. search (needs, s .good .0 .1 .1 .1 .1 .1 .1 .1 .1 .1 .1 .1 .0) in
+    record {
+      kinds = search (needs, s .good .0 .1 .1 .1 .1 .1 .1 .1 .1 .0);
+      from = search (needs, s .good .0 .1 .1 .1 .1 .1 .1 .1 .1 .1 .0);
+      to = search (needs, s .good .0 .1 .1 .1 .1 .1 .1 .1 .1 .1 .1 .0);
+      costs = search (needs, s .good .0 .1 .1 .1 .1 .1 .1 .1 .1 .1 .1 .1 .0);
+      copies = search (needs, s .good .0 .1 .1 .1 .1 .1 .1 .1 .1 .1 .1 .1 .1 .0);
+      times = search (needs, s .good .0 .1 .1 .1 .1 .1 .1 .1 .1 .1 .1 .1 .1 .1 .0);
+      intervals = search (needs, s .good .0 .1 .1 .1 .1 .1 .1 .1 .1 .1 .1 .1 .1 .1 .1);
+      costBound = λ y. k y .fits;
+    }
 
 job-record-fault-requires : tie.Need-job-record-fault-requires
 job-record-fault-requires c κs = search needs
@@ -23,8 +39,9 @@ job-record-fault-requires c κs = search needs
 returns : tie.Need-returns
 unfolding writeJob jobOut
 returns c =
-    let a = c .before .before .before .args in
-    writes-fault _ _ _ (jobSheet (a .job)) (now (a .out)) _ (c .before .job-record-fault .ensures) (c .if1 .taken)
+    let s = c .before .before .before in
+    let a = s .args in
+    (writes-fault _ _ _ (jobSheet (a .job)) (now (a .out)) _ (c .before .job-record-fault .ensures) (c .if1 .taken), shape s)
 
 job-end-requires : tie.Need-job-end-requires
 job-end-requires c κs = search needs
@@ -43,7 +60,7 @@ returns-2 c =
     let j = a .job in
     let z = sym (b4 .job-record-fault .ensures) ∙ b3 .if1 .left in
     let e = c .before .bytes-for .ensures ∙ ap (λ (k : ℕ). bytesFor k) (b2 .job-end .ensures) in
-    writes-short _ _ _ (jobSheet j) (now (a .out)) z (rw (← e) (c .if2 .taken))
+    (writes-short _ _ _ (jobSheet j) (now (a .out)) z (rw (← e) (c .if2 .taken)), shape b6)
 
 put-job-head-requires : tie.Need-put-job-head-requires
 put-job-head-requires c κs = search needs
@@ -96,10 +113,12 @@ returns-3 c =
     let d = b18 .job-end .ensures in
     let e = b17 .bytes-for .ensures in
     let l : bytesFor (jobEnd (j .n) (j .e) (j .m)) ≤ length (now (a .out)) = rw (← d, ← e) (omega arith) in
-    let k : (y : ℕ) → Fits w16 (cell (j .costs) y) = λ y. search (needs, s .good .0 .1 .1 .1 .1 .1 .1 .1 .1 .1 .1 .1 .0) in
-    rw (e, d) (writes-sheet _ _ _ (jobSheet j) (now (a .out)) _ z l
-    (rw (b2 .put .ensures, b6 .put-units .ensures, b10 .put-graph .ensures, b14 .put-job-head .ensures, e, d)
-    (put-job j (none-record j z) (λ y. k y .fits) (now (a .out)) (λ i. b21 .slice-known .given i .fits) l)))
+    rw (e, d) (
+      writes-sheet _ _ _ (jobSheet j) (now (a .out)) _ z l
+          (rw (b2 .put .ensures, b6 .put-units .ensures, b10 .put-graph .ensures, b14 .put-job-head .ensures, e, d)
+          (put-job j (none-record j z) (shape s .costBound) (now (a .out)) (λ i. b21 .slice-known .given i .fits) l)),
+      shape s,
+    )
 
 pub write-job-spec : {M : Type 1} → statement M
 write-job-spec =

@@ -9,9 +9,17 @@ use lib.Pow.{pow-pos}
 use Rattle.bits.specs.Sheet.{bytesFor}
 use Rattle.sheets.proofs.AnswerLaws.{writes-fault, writes-short, writes-sheet}
 use Rattle.sheets.proofs.PlanFieldLaws.{none-plan, put-plan}
-use Rattle.sheets.specs.PlanSheet.{planEnd, planSheet, writePlan, planOut}
+use Rattle.sheets.specs.PlanSheet.{PlanShape, planEnd, planSheet, writePlan, planOut}
 use Rattle.sheets.proofs.plans.write_plan.Statement.{statement}
 use Rattle.sheets.proofs.plans.write_plan.Tie as tie
+
+-- what the record's types say
+shape : (s : tie.Start) → PlanShape (s .args .plan)
+shape s = record {
+  selection = search (needs, s .good .0 .1 .1 .1 .1 .0);
+  starts = search (needs, s .good .0 .1 .1 .1 .1 .1 .0);
+  insts = search (needs, s .good .0 .1 .1 .1 .1 .1 .1);
+}
 
 plan-record-fault-requires : tie.Need-plan-record-fault-requires
 plan-record-fault-requires c κs = search needs
@@ -19,8 +27,9 @@ plan-record-fault-requires c κs = search needs
 returns : tie.Need-returns
 unfolding writePlan planOut
 returns c =
-    let a = c .before .before .before .args in
-    writes-fault _ _ _ (planSheet (a .plan)) (now (a .out)) _ (c .before .plan-record-fault .ensures) (c .if1 .taken)
+    let s = c .before .before .before in
+    let a = s .args in
+    (writes-fault _ _ _ (planSheet (a .plan)) (now (a .out)) _ (c .before .plan-record-fault .ensures) (c .if1 .taken), shape s)
 
 plan-end-requires : tie.Need-plan-end-requires
 plan-end-requires c κs = search needs
@@ -38,7 +47,7 @@ returns-2 c =
     let a = b6 .args in
     let z = sym (b4 .plan-record-fault .ensures) ∙ b3 .if1 .left in
     let e = c .before .bytes-for .ensures ∙ ap (λ (k : ℕ). bytesFor k) (b2 .plan-end .ensures) in
-    writes-short _ _ _ (planSheet (a .plan)) (now (a .out)) z (rw (← e) (c .if2 .taken))
+    (writes-short _ _ _ (planSheet (a .plan)) (now (a .out)) z (rw (← e) (c .if2 .taken)), shape b6)
 
 put-plan-requires : tie.Need-put-plan-requires
 put-plan-requires c κs = search needs
@@ -81,8 +90,11 @@ returns-3 c =
     let d = b10 .plan-end .ensures in
     let e = b9 .bytes-for .ensures in
     let l : bytesFor (planEnd (p .n) (p .k)) ≤ length (now (a .out)) = rw (← d, ← e) (omega arith) in
-    rw (e, d) (writes-sheet _ _ _ (planSheet p) (now (a .out)) _ z l
-    (rw (b2 .put .ensures, b6 .put-plan .ensures, e, d) (put-plan p (none-plan p z) (now (a .out)) (λ i. b13 .slice-known .given i .fits) l)))
+    rw (e, d) (
+      writes-sheet _ _ _ (planSheet p) (now (a .out)) _ z l
+          (rw (b2 .put .ensures, b6 .put-plan .ensures, e, d) (put-plan p (none-plan p z) (now (a .out)) (λ i. b13 .slice-known .given i .fits) l)),
+      shape s,
+    )
 
 pub write-plan-spec : {M : Type 1} → statement M
 write-plan-spec =
