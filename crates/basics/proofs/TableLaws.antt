@@ -6,8 +6,8 @@ use mathlib.Core.List.{List}
 use native.Mathlib.Decide.{decLt}
 use native.Mathlib.Numerals.{add-one}
 use native.Mathlib.Omega.{arith}
-use borrow.Author.Tests.{leb-true, eqb-true, le-leb, lt-ltb, le-ltb}
-use lib.ListN.{length, set, replicate, length-set, length-replicate}
+use borrow.Author.Tests.{leb-true, eqb-true, le-leb, lt-leb, lt-ltb, le-ltb}
+use lib.ListN.{length, set, replicate, length-set, length-replicate, List·getD-eq-default}
 use lib.Seq.{getD-set-same, getD-set-other, ext-getD}
 use Rattle.basics.specs.Tables.{cell, filled, cells, cellWithin, within, cellBlank, blank}
 use Rattle.basics.proofs.CountLaws.{allTo-each, each-allTo}
@@ -62,11 +62,19 @@ cells-cong f g (suc n) size h = rw (cells-cong f g n size (λ i l. h i (omega ar
 
 pub within-each : (table : List ℕ) (limit n : ℕ) → within table limit n ≡ true → (i : ℕ) → i < n → cell table i ≤ limit
 unfolding within
-within-each table limit n h i l = leb-true _ _ (allTo-each (cellWithin table limit) n h i l)
+within-each table limit n h i l = go (decLt i (length table))
+  where
+    go : Dec (i < length table) → cell table i ≤ limit
+    go (yes m) = leb-true _ _ (rw (lt-leb n i l) at (allTo-each (cellWithin table limit n) (length table) h i m))
+    go (no m) = rw (List·getD-eq-default table 0 (let q : length table ≤ i = omega arith in q)) (omega arith)
 
 pub each-within : (table : List ℕ) (limit n : ℕ) → ((i : ℕ) → i < n → cell table i ≤ limit) → within table limit n ≡ true
 unfolding within
-each-within table limit n h = each-allTo (cellWithin table limit) n (λ i l. le-leb _ _ (h i l))
+each-within table limit n h = each-allTo (cellWithin table limit n) (length table) (λ i l. go i (decLt i n))
+  where
+    go : (i : ℕ) → Dec (i < n) → cellWithin table limit n i ≡ true
+    go i (yes a) = rw (lt-leb n i a, le-leb (cell table i) limit (h i a))
+    go i (no a) = rw (le-leb n i (omega arith))
 
 pub blank-each : (table : List ℕ) (n : ℕ) → blank table n ≡ true → (i : ℕ) → n ≤ i → i < length table → cell table i ≡ 0
 unfolding blank

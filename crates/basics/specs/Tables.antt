@@ -19,13 +19,13 @@ filled table f (suc n) = set (filled table f n) n (f n)
 abbrev pub cells : (ℕ → ℕ) → ℕ → ℕ → List ℕ
 cells f n size = filled (replicate size 0) f n
 
--- cell i is at most the limit
-abbrev pub cellWithin : List ℕ → ℕ → ℕ → Bool
-cellWithin table limit i = leb (cell table i) limit
+-- cell i is behind the first n, or at most the limit
+abbrev pub cellWithin : List ℕ → ℕ → ℕ → ℕ → Bool
+cellWithin table limit n i = leb n i || leb (cell table i) limit
 
 -- the first n cells are at most the limit
 unfoldable pub within : List ℕ → ℕ → ℕ → Bool
-within table limit n = allTo (cellWithin table limit) n
+within table limit n = allTo (cellWithin table limit n) (length table)
 
 -- cell i is one of the first n, or 0
 abbrev pub cellBlank : List ℕ → ℕ → ℕ → Bool

@@ -88,8 +88,8 @@ pub fn within(table: &[u16], limit: u16, n: usize) -> bool
 {
     let mut ok = true;
     let mut i: usize = 0;
-    while i < n {
-        ok = ok & (cell(table, i) <= limit);
+    while i < table.len() {
+        ok = ok & ((n <= i) | (table[i] <= limit));
         i += 1;
     }
     ok

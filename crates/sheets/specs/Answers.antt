@@ -13,7 +13,7 @@ use Rattle.sheets.specs.declared.Reading.the-variants.{Read, Refused as 
 use Rattle.sheets.specs.declared.Written.{Written}
 use Rattle.sheets.specs.declared.Written.the-variants.{Wrote, Refused}
 
--- ---- each case in its numbers
+-- ---- each case in its numbers (`Unread` is the readers' `Refused`)
 
 abbrev pub readingSays : Reading → Answer
 readingSays Read = record { outcome = outcomeRead; number = 0; paper = 0; cost = 0; visits = 0; length = 0 }
