@@ -1,4 +1,4 @@
-/* Tolmupung: job and plan sheets, read and written exactly.
+/* Tolmupung: job and plan sheets, read and written exactly, and plans judged.
  *
  * Every entry takes any bytes and any numbers, and ends. A refusal gives its number and the paper at fault,
  * and changes no output byte. Nothing here allocates, and nothing is kept between calls.
@@ -44,11 +44,20 @@ enum {
 enum {
     TOLMUPUNG_BITS_RUN_OUT = 1,
     TOLMUPUNG_FORM_DIFFERS = 2,
-    TOLMUPUNG_OUTSIDE_LIMIT = 3, /* N, E, M, K or clock */
+    TOLMUPUNG_OUTSIDE_LIMIT = 3,       /* N, E, M, K or clock */
     TOLMUPUNG_LINK_BROKEN = 4,
-    TOLMUPUNG_TYPE_BROKEN = 5,   /* or copies so far exceed 16 */
-    TOLMUPUNG_FILL_BROKEN = 6,   /* not zero, or bytes follow */
-    TOLMUPUNG_RECORD_BROKEN = 7, /* T, wire, a kind, a selection cell or a row's number too wide, or an unused cell not zero */
+    TOLMUPUNG_TYPE_BROKEN = 5,         /* or copies so far exceed 16 */
+    TOLMUPUNG_FILL_BROKEN = 6,         /* not zero, or bytes follow */
+    TOLMUPUNG_RECORD_BROKEN = 7,       /* T, wire, a kind, a selection cell or a row's number too wide, or an unused cell not zero */
+    TOLMUPUNG_COUNTS_DIFFER = 10,      /* the plan's N or K differs from the job's */
+    TOLMUPUNG_ORDER_BROKEN = 11,       /* within a type a selected instance precedes an unselected one */
+    TOLMUPUNG_ROW_INSTANCE = 12,       /* not below K */
+    TOLMUPUNG_ROW_KIND = 13,           /* the instance cannot do it */
+    TOLMUPUNG_ROW_UNSELECTED = 14,     /* the instance is not selected */
+    TOLMUPUNG_ROW_STEP = 15,           /* start or finish outside 1 to T */
+    TOLMUPUNG_PRECEDENCE_BROKEN = 16,
+    TOLMUPUNG_RESOURCE_BROKEN = 17,
+    TOLMUPUNG_CHAIN_BROKEN = 18,
     TOLMUPUNG_OUTPUT_SHORT = 22
 };
 
@@ -112,6 +121,10 @@ tolmupung_plan_read tolmupung_read_plan(const uint8_t *sheet, size_t sheet_len);
 tolmupung_answer tolmupung_write_job(tolmupung_job job, uint8_t *out, size_t out_len);
 tolmupung_answer tolmupung_write_plan(tolmupung_plan plan, uint8_t *out, size_t out_len);
 
+/* The judge: passed with the cost of the plan's selection, or refused by the job reader's numbers, the plan reader's, or
+ * 10 to 18. A plan of length 0 is refused by 1, paper 1. */
+tolmupung_answer tolmupung_judge(const uint8_t *job, size_t job_len, const uint8_t *plan, size_t plan_len);
+
 #ifdef __cplusplus
 }
 #endif
@@ -150,9 +163,16 @@ static inline tolmupung_answer tolmupung_safe_write_plan(tolmupung_plan plan, ui
     return tolmupung_write_plan(plan, tolmupung_into(out), out ? out_len : 0);
 }
 
+static inline tolmupung_answer tolmupung_safe_judge(const uint8_t *job, size_t job_len, const uint8_t *plan,
+                                                    size_t plan_len)
+{
+    return tolmupung_judge(tolmupung_from(job), job ? job_len : 0, tolmupung_from(plan), plan ? plan_len : 0);
+}
+
 #define tolmupung_read_job tolmupung_safe_read_job
 #define tolmupung_read_plan tolmupung_safe_read_plan
 #define tolmupung_write_job tolmupung_safe_write_job
 #define tolmupung_write_plan tolmupung_safe_write_plan
+#define tolmupung_judge tolmupung_safe_judge
 
 #endif

@@ -6,6 +6,7 @@ use crate::record::{
 };
 use crate::refusal::{Fault, Paper};
 use crate::sheet::{Field, FieldName, Form};
+use std::iter::repeat_n;
 
 const HEADER_WITHOUT_FORM: usize = 5 + 7 + 4 + 5 + 10 + 10;
 const TYPE_BITS: usize = 16 + 3 + KINDS * (10 + 10);
@@ -50,6 +51,19 @@ impl Ability {
     }
 }
 
+impl Job {
+    /// The type of each instance. Instances are numbered type by type.
+    pub fn instance_types(&self) -> impl Iterator<Item = &UnitType> {
+        let types = self.types.iter();
+        types.flat_map(|unit| repeat_n(unit, usize::from(unit.copies)))
+    }
+
+    /// K, the total of copies.
+    pub fn instances(&self) -> usize {
+        self.types.iter().map(|unit| usize::from(unit.copies)).sum()
+    }
+}
+
 fn check_limits(n: usize, e: usize, m: usize, clock: u16) -> Result<(), Fault> {
     if n > MAX_OPERATIONS || e > MAX_LINKS || m > MAX_TYPES || !(1..=1023).contains(&clock) {
         return Err(Fault::OutsideLimit);
@@ -70,9 +84,8 @@ impl Job {
     }
 
     fn add_type(&mut self, unit: UnitType) -> Result<(), Fault> {
-        let copies_before: u16 = self.types.iter().map(|unit| unit.copies).sum();
         let keeps_rule = (1..=7).contains(&unit.copies)
-            && usize::from(copies_before + unit.copies) <= MAX_INSTANCES
+            && self.instances() + usize::from(unit.copies) <= MAX_INSTANCES
             && unit.abilities.iter().all(|ability| ability.keeps_rule());
         if !keeps_rule {
             return Err(Fault::TypeRule);

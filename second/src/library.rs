@@ -3,11 +3,12 @@
 use crate::job::Job;
 use crate::plan::Plan;
 use crate::record::{JobRecord, PlanRecord, Record};
-use crate::refusal::Refusal;
+use crate::refusal::{Paper, Refusal};
 use crate::sheet::Form;
 use std::mem::{align_of, offset_of, size_of};
 
 const REFUSED: u32 = 0;
+const PASSED: u32 = 1;
 const WRITTEN: u32 = 6;
 const READ: u32 = 7;
 
@@ -62,6 +63,18 @@ impl Answer {
         }
     }
 
+    /// What the judge ought to give.
+    pub fn judged(verdict: Result<u32, Refusal>) -> Answer {
+        match verdict {
+            Ok(cost) => Answer {
+                outcome: PASSED,
+                cost,
+                ..Answer::NOTHING
+            },
+            Err(refusal) => Answer::refused(refusal),
+        }
+    }
+
     pub fn refused(refusal: Refusal) -> Answer {
         Answer {
             outcome: REFUSED,
@@ -97,6 +110,7 @@ extern "C" {
     fn tolmupung_write_job(job: JobRecord, out: *mut u8, out_len: usize) -> Answer;
     fn tolmupung_read_plan(sheet: *const u8, sheet_len: usize) -> Reading<PlanRecord>;
     fn tolmupung_write_plan(plan: PlanRecord, out: *mut u8, out_len: usize) -> Answer;
+    fn tolmupung_judge(job: *const u8, job_len: usize, plan: *const u8, plan_len: usize) -> Answer;
 }
 
 #[derive(Clone, Copy, Debug, PartialEq, Eq, PartialOrd, Ord)]
@@ -105,14 +119,19 @@ pub enum Entry {
     WriteJob,
     ReadPlan,
     WritePlan,
+    Judge,
 }
 
+/// A paper, and the numbers by which an entry can refuse it.
+type Refusals = (Paper, &'static [u32]);
+
 impl Entry {
-    pub const ALL: [Entry; 4] = [
+    pub const ALL: [Entry; 5] = [
         Entry::ReadJob,
         Entry::WriteJob,
         Entry::ReadPlan,
         Entry::WritePlan,
+        Entry::Judge,
     ];
 
     pub fn name(self) -> &'static str {
@@ -121,16 +140,24 @@ impl Entry {
             Entry::WriteJob => "job writer",
             Entry::ReadPlan => "plan reader",
             Entry::WritePlan => "plan writer",
+            Entry::Judge => "judge",
         }
     }
 
-    /// The refusal numbers that the entry can give.
-    pub fn numbers(self) -> &'static [u32] {
+    /// The refusals that the entry can give.
+    pub fn refusals(self) -> &'static [Refusals] {
         match self {
-            Entry::ReadJob => &[1, 2, 3, 4, 5, 6],
-            Entry::WriteJob => &[3, 4, 5, 7, 22],
-            Entry::ReadPlan => &[1, 2, 3, 6],
-            Entry::WritePlan => &[3, 7, 22],
+            Entry::ReadJob => &[(Paper::Job, &[1, 2, 3, 4, 5, 6])],
+            Entry::WriteJob => &[(Paper::Job, &[3, 4, 5, 7]), (Paper::Request, &[22])],
+            Entry::ReadPlan => &[(Paper::Plan, &[1, 2, 3, 6])],
+            Entry::WritePlan => &[(Paper::Plan, &[3, 7]), (Paper::Request, &[22])],
+            Entry::Judge => &[
+                (Paper::Job, &[1, 2, 3, 4, 5, 6]),
+                (
+                    Paper::Plan,
+                    &[1, 2, 3, 6, 10, 11, 12, 13, 14, 15, 16, 17, 18],
+                ),
+            ],
         }
     }
 }
@@ -168,4 +195,9 @@ impl Entries for Plan {
     fn write_by_library(plan: &PlanRecord, out: &mut [u8]) -> Answer {
         unsafe { tolmupung_write_plan(*plan, out.as_mut_ptr(), out.len()) }
     }
+}
+
+/// The entry that judges a plan against its job.
+pub fn judge_by_library(job: &[u8], plan: &[u8]) -> Answer {
+    unsafe { tolmupung_judge(job.as_ptr(), job.len(), plan.as_ptr(), plan.len()) }
 }

@@ -1,21 +1,8 @@
-//! The second program of Tolmupung: it reads and writes the office's sheets by the written rules alone, and compares
-//! the library with itself.
+//! The second program's command line.
 
-mod bits;
-mod compare;
-mod hex;
-mod job;
-mod library;
-mod plan;
-mod random;
-mod record;
-mod refusal;
-mod samples;
-mod sheet;
-mod show;
-
-use random::Random;
-use sheet::Form;
+use second::random::Random;
+use second::sheet::Form;
+use second::{compare, hex, judge, samples, show};
 use std::env;
 use std::io::{self, Write};
 use std::process::ExitCode;
@@ -27,13 +14,14 @@ const CALLED_WRONGLY: u8 = 2;
 const USAGE: &str = "\
 usage:
   second compare [SEED] [COUNT]   the library beside this program; COUNT scales the random inputs
+  second judge JOBHEX PLANHEX     this program's own verdict on a plan
   second show job HEX             a job sheet, field by field
   second show plan HEX            a plan sheet, field by field
   second make job P               the sheet of job P, in hex
   second make job SEED            the sheet of a random job
   second make plan 1              the sheet of the plan of case 1
   second make plan SEED           the sheet of a random plan (SEED other than 1)
-numbers are decimal; HEX may have spaces between its digits
+numbers are decimal; HEX may have spaces between its digits (judge: within quotes)
 ";
 
 fn main() -> ExitCode {
@@ -44,6 +32,7 @@ fn main() -> ExitCode {
     let words: Vec<&str> = arguments.iter().map(String::as_str).collect();
     match words.as_slice() {
         ["compare", numbers @ ..] => compare(numbers),
+        ["judge", job, plan] => judge_sheets(job, plan),
         ["show", "job", digits @ ..] if !digits.is_empty() => show_sheet(digits, show::job),
         ["show", "plan", digits @ ..] if !digits.is_empty() => show_sheet(digits, show::plan),
         ["make", "job", "P"] => make_sheet(&samples::job_p()),
@@ -70,6 +59,18 @@ fn compare(numbers: &[&str]) -> ExitCode {
         (Ok(seed), Ok(count)) if numbers.len() <= 2 => compare::run(seed, count),
         _ => usage(),
     }
+}
+
+fn judge_sheets(job: &str, plan: &str) -> ExitCode {
+    let (Some(job), Some(plan)) = (hex::bytes_of(job), hex::bytes_of(plan)) else {
+        return usage();
+    };
+    let verdict = judge::judge(&job, &plan);
+    let status = match verdict {
+        Ok(_) => ExitCode::SUCCESS,
+        Err(_) => ExitCode::FAILURE,
+    };
+    print(&show::verdict(&verdict), status)
 }
 
 fn show_sheet<F: Form>(digits: &[&str], text: fn(&F) -> String) -> ExitCode {

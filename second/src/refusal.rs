@@ -9,6 +9,15 @@ pub enum Fault {
     TypeRule = 5,
     Fill = 6,
     Record = 7,
+    CountsDiffer = 10,
+    SelectionOrder = 11,
+    RowInstance = 12,
+    RowKind = 13,
+    RowUnselected = 14,
+    RowStep = 15,
+    Precedence = 16,
+    Resource = 17,
+    Chain = 18,
     OutputTooShort = 22,
 }
 
@@ -44,6 +53,26 @@ impl Refusal {
             Fault::TypeRule => "type breaks its rule, or copies so far exceed 16",
             Fault::Fill => "fill not zero, or bytes follow",
             Fault::Record => "a number too wide for its field, or an unused cell not zero",
+            Fault::CountsDiffer => "plan's N or K differs from the job's",
+            Fault::SelectionOrder => {
+                "selection order: within a type a selected instance precedes an unselected one"
+            }
+            Fault::RowInstance => "row: instance not below K",
+            Fault::RowKind => "row: instance not able to do the kind",
+            Fault::RowUnselected => "row: instance not selected",
+            Fault::RowStep => "row: start below 1, or start + delay - 1 above T",
+            Fault::Precedence => {
+                "precedence: for a link (a, b), b's start is below a's start + a's delay, \
+                 and it is not so that both starts are equal and both delays are 1"
+            }
+            Fault::Resource => {
+                "resource: two operations on one instance have equal starts, or the later start \
+                 exceeds the earlier by less than the spacing of the later operation"
+            }
+            Fault::Chain => {
+                "chain: for operations joined by successive links and all started in one step, \
+                 the times plus one wire for each link total more than the clock"
+            }
             Fault::OutputTooShort => "output too short",
         }
     }

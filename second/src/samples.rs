@@ -5,7 +5,7 @@ use crate::plan::{Plan, Row};
 use crate::random::Random;
 use crate::record::{KINDS, MAX_INSTANCES, MAX_LINKS, MAX_OPERATIONS, MAX_TYPES};
 
-const CANNOT: Ability = Ability {
+pub const CANNOT: Ability = Ability {
     time: 0,
     interval: 0,
 };
@@ -43,7 +43,7 @@ pub fn job_p() -> Job {
     }
 }
 
-fn unit_for_one_kind(kind: usize, cost: u16, copies: u16, time: u16) -> UnitType {
+pub fn unit_for_one_kind(kind: usize, cost: u16, copies: u16, time: u16) -> UnitType {
     let mut abilities = [CANNOT; KINDS];
     abilities[kind] = Ability {
         time,
@@ -58,12 +58,17 @@ fn unit_for_one_kind(kind: usize, cost: u16, copies: u16, time: u16) -> UnitType
 
 /// The cheapest plan of job P.
 pub fn plan_of_case_1() -> Plan {
-    let rows = [(1, 2), (2, 2), (3, 1)];
+    plan_of(&[0, 1, 1], &[(1, 2), (2, 2), (3, 1)])
+}
+
+/// A plan from its selection bits and its rows, start and instance each.
+pub fn plan_of(selection: &[u16], rows: &[(u16, u16)]) -> Plan {
+    let rows = rows
+        .iter()
+        .map(|&(start, instance)| Row { start, instance });
     Plan {
-        selection: vec![false, true, true],
-        rows: rows
-            .map(|(start, instance)| Row { start, instance })
-            .to_vec(),
+        selection: selection.iter().map(|&bit| bit == 1).collect(),
+        rows: rows.collect(),
     }
 }
 
@@ -162,11 +167,11 @@ pub fn plan_of_size(random: &mut Random, n: usize, k: usize) -> Plan {
     Plan { selection, rows }
 }
 
-fn random_count(random: &mut Random, most: usize) -> usize {
+pub fn random_count(random: &mut Random, most: usize) -> usize {
     usize::from(random.often_extreme(0, most as u16))
 }
 
-fn random_links(random: &mut Random, n: usize, e: usize) -> Vec<Link> {
+pub fn random_links(random: &mut Random, n: usize, e: usize) -> Vec<Link> {
     let mut links = all_links(n);
     while links.len() > e {
         links.remove(random.below(links.len()));
@@ -189,10 +194,18 @@ fn random_types(random: &mut Random, m: usize) -> Vec<UnitType> {
 
 /// Copies of each type, their total often the largest or the smallest.
 fn random_copies(random: &mut Random, m: usize) -> Vec<u16> {
-    let most = MAX_INSTANCES.min(7 * m);
-    let total = random.often_extreme(m as u16, most as u16);
+    let k = random.often_extreme(m as u16, most_instances(m) as u16);
+    shared_copies(random, m, k)
+}
+
+pub fn most_instances(m: usize) -> usize {
+    MAX_INSTANCES.min(7 * m)
+}
+
+/// `k` copies shared among `m` types.
+pub fn shared_copies(random: &mut Random, m: usize, k: u16) -> Vec<u16> {
     let mut copies = vec![1; m];
-    while copies.iter().sum::<u16>() < total {
+    while copies.iter().sum::<u16>() < k {
         let unit = random.below(m);
         if copies[unit] < 7 {
             copies[unit] += 1;

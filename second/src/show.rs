@@ -15,6 +15,19 @@ pub fn refusal(refusal: &Refusal) -> String {
     )
 }
 
+/// The judge's verdict, and what the number of a refusal means.
+pub fn verdict(verdict: &Result<u32, Refusal>) -> String {
+    match verdict {
+        Ok(cost) => format!("passed, cost {cost}\n"),
+        Err(refusal) => format!(
+            "refused by {number}, paper {}\n{number} means: {}.\n",
+            refusal.paper as u32,
+            refusal.meaning(),
+            number = refusal.number(),
+        ),
+    }
+}
+
 pub fn job(job: &Job) -> String {
     let mut text = field_table("job", &job.fields());
     text += &format!(
@@ -289,6 +302,16 @@ mod tests {
     fn a_refusal_is_one_line() {
         let text = refusal(&Refusal::OUTPUT_TOO_SHORT);
         assert_eq!(text, "refused 22 (output too short), paper 4\n");
+    }
+
+    #[test]
+    fn a_verdict_says_what_its_number_means() {
+        assert_eq!(verdict(&Ok(40)), "passed, cost 40\n");
+        let refused = verdict(&Err(Refusal::OUTPUT_TOO_SHORT));
+        assert_eq!(
+            refused,
+            "refused by 22, paper 4\n22 means: output too short.\n"
+        );
     }
 
     #[test]

@@ -1,12 +1,12 @@
--- Laws of `allTo` and `sumTo`: one number more, and what holds of all holds of each.
-use Prim.Native.Nat.{ℕ, zero, suc, _+_, _<_}
+-- Laws of `allTo`, `sumTo` and `only`: one number more, what holds of all holds of each, and a bound.
+use Prim.Native.Nat.{ℕ, zero, suc, _+_, _<_, _≤_}
 use mathlib.Core.Path.{_≡_, refl}
 use mathlib.Core.Logic.{_⊎_, inl, inr}
 use mathlib.Core.Bool.{Bool, true, false, _&&_, _||_}
 use native.Mathlib.Decide.{ℕ-discrete}
 use native.Mathlib.Numerals.{add-one}
 use native.Mathlib.Omega.{arith}
-use Rattle.basics.specs.Counting.{allTo, sumTo}
+use Rattle.basics.specs.Counting.{allTo, sumTo, only}
 
 -- ---- both, and either, of two tests
 
@@ -46,3 +46,10 @@ pub each-allTo : (test : ℕ → Bool) (n : ℕ) → ((i : ℕ) → i < n → te
 unfolding allTo
 each-allTo test zero h = refl
 each-allTo test (suc n) h = both-and _ _ (each-allTo test n (λ i l. h i (omega arith))) (h n (omega arith))
+
+-- ---- only
+
+pub only-small : (test : Bool) (x : ℕ) → only test x ≤ x
+unfolding only
+only-small true x = omega arith
+only-small false x = omega arith

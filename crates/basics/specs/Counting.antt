@@ -1,6 +1,6 @@
--- Counting over the numbers below n: `allTo` holds of each, `sumTo` adds up over them.
+-- Counting over the numbers below n: `allTo` holds of each, `sumTo` adds up over them; `only` counts where a test holds.
 use Prim.Native.Nat.{ℕ, zero, suc, _+_}
-use mathlib.Core.Bool.{Bool, true, _&&_}
+use mathlib.Core.Bool.{Bool, true, false, _&&_}
 
 -- test 0, test 1, .. and test (n - 1) all hold
 unfoldable pub allTo : (ℕ → Bool) → ℕ → Bool
@@ -11,3 +11,8 @@ allTo test (suc n) = allTo test n && test n
 unfoldable pub sumTo : (ℕ → ℕ) → ℕ → ℕ
 sumTo f zero = 0
 sumTo f (suc n) = sumTo f n + f n
+
+-- x where the test holds, else 0
+unfoldable pub only : Bool → ℕ → ℕ
+only true x = x
+only false x = 0

@@ -27,6 +27,36 @@ fillBroken = 6
 abbrev pub recordBroken : ℕ
 recordBroken = 7
 
+-- the plan's N or K differs from the job's
+abbrev pub countsDiffer : ℕ
+countsDiffer = 10
+
+-- within a type a selected instance precedes an unselected one
+abbrev pub orderBroken : ℕ
+orderBroken = 11
+
+-- of a row: the instance is not below K, cannot do the kind, is not selected; start or finish outside 1 to T
+abbrev pub rowInstance : ℕ
+rowInstance = 12
+
+abbrev pub rowKind : ℕ
+rowKind = 13
+
+abbrev pub rowUnselected : ℕ
+rowUnselected = 14
+
+abbrev pub rowStep : ℕ
+rowStep = 15
+
+abbrev pub precedenceBroken : ℕ
+precedenceBroken = 16
+
+abbrev pub resourceBroken : ℕ
+resourceBroken = 17
+
+abbrev pub chainBroken : ℕ
+chainBroken = 18
+
 abbrev pub outputShort : ℕ
 outputShort = 22
 
@@ -45,6 +75,9 @@ paperRequest = 4
 
 abbrev pub outcomeRefused : ℕ
 outcomeRefused = 0
+
+abbrev pub outcomePassed : ℕ
+outcomePassed = 1
 
 abbrev pub outcomeWritten : ℕ
 outcomeWritten = 6

@@ -2,6 +2,7 @@
 ghost use mathlib.Core.Path.{_≡_};
 ghost use Prim.Native.Nat.{_<_};
 ghost use Rattle.basics.specs.Answers.{refusedSays};
+ghost use Rattle.basics.specs.Counting.{only as onlyIf};
 ghost use Rattle.basics.specs.Faults.{_orElse_, faultUnless};
 ghost use Rattle.basics.specs.Tables.{cell as cellOf, within as withinOf, blank as blankOf};
 
@@ -20,6 +21,24 @@ pub const FILL_BROKEN: u32 = 6;
 
 pub const RECORD_BROKEN: u32 = 7;
 
+pub const COUNTS_DIFFER: u32 = 10;
+
+pub const ORDER_BROKEN: u32 = 11;
+
+pub const ROW_INSTANCE: u32 = 12;
+
+pub const ROW_KIND: u32 = 13;
+
+pub const ROW_UNSELECTED: u32 = 14;
+
+pub const ROW_STEP: u32 = 15;
+
+pub const PRECEDENCE_BROKEN: u32 = 16;
+
+pub const RESOURCE_BROKEN: u32 = 17;
+
+pub const CHAIN_BROKEN: u32 = 18;
+
 pub const OUTPUT_SHORT: u32 = 22;
 
 // The numbers of papers.
@@ -31,6 +50,8 @@ pub const PAPER_REQUEST: u32 = 4;
 
 // What an answer can be.
 pub const REFUSED: u32 = 0;
+
+pub const PASSED: u32 = 1;
 
 pub const WRITTEN: u32 = 6;
 
@@ -73,6 +94,13 @@ pub fn fault_unless(test: bool, number: u32) -> u32
     ensures { λ r. ⌜ r ≡ faultUnless test number ⌝ }
 {
     if test { 0 } else { number }
+}
+
+// x where the test holds, else 0.
+pub fn only(test: bool, x: u32) -> u32
+    ensures { λ r. ⌜ r ≡ onlyIf test x ⌝ }
+{
+    if test { x } else { 0 }
 }
 
 // Cell i of a table, and 0 past its end.

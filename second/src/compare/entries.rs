@@ -2,7 +2,8 @@
 
 use super::tally::Tally;
 use crate::hex;
-use crate::library::{Answer, Entries, Entry, Reading};
+use crate::judge::judge;
+use crate::library::{judge_by_library, Answer, Entries, Entry, Reading};
 use crate::refusal::Refusal;
 use std::fmt::{self, Debug};
 
@@ -61,8 +62,12 @@ impl Comparison {
     pub fn read<F: Entries>(&mut self, sheet: &[u8]) -> Checked {
         let own = Reading::of(F::read(sheet));
         self.tally.count(F::READER, &own.answer);
-        let input = || format!("{} bytes: {}", sheet.len(), hex::digits_of(sheet));
-        agree(F::READER, input, &own, &F::read_by_library(sheet))
+        agree(
+            F::READER,
+            || sheet_text(sheet),
+            &own,
+            &F::read_by_library(sheet),
+        )
     }
 
     pub fn write<F: Entries>(&mut self, record: &F::Record, room: usize) -> Checked {
@@ -72,6 +77,13 @@ impl Comparison {
         let library = library_write::<F>(record, &before);
         let input = || format!("{record:?}\ninto {room} bytes");
         agree(F::WRITER, input, &own, &library)
+    }
+
+    pub fn judge(&mut self, job: &[u8], plan: &[u8]) -> Checked {
+        let own = Answer::judged(judge(job, plan));
+        self.tally.count(Entry::Judge, &own);
+        let input = || format!("job, {}\nplan, {}", sheet_text(job), sheet_text(plan));
+        agree(Entry::Judge, input, &own, &judge_by_library(job, plan))
     }
 
     /// A sound job or plan: its sheet read, its record written, and there and back by the library alone.
@@ -97,6 +109,10 @@ impl Comparison {
         }
         output
     }
+}
+
+fn sheet_text(sheet: &[u8]) -> String {
+    format!("{} bytes: {}", sheet.len(), hex::digits_of(sheet))
 }
 
 /// What a writer leaves: its answer, and the whole output with its margins before and after the call.

@@ -125,7 +125,7 @@ fn flip_bits<F: Entries>(
     Ok(())
 }
 
-fn flipped(sheet: &[u8], positions: &[usize]) -> Vec<u8> {
+pub fn flipped(sheet: &[u8], positions: &[usize]) -> Vec<u8> {
     let mut changed = sheet.to_vec();
     for position in positions {
         changed[position / 8] ^= 0x80 >> (position % 8);
@@ -188,11 +188,19 @@ pub fn random_bytes(comparison: &mut Comparison, random: &mut Random, count: usi
     Ok(())
 }
 
-/// The bytes as they are, with the right form, and with the header of a sound sheet.
 fn read_as<F: Entries>(comparison: &mut Comparison, bytes: &[u8], sound: &F) -> Checked {
-    comparison.read::<F>(bytes)?;
-    comparison.read::<F>(&with_form(bytes, F::FORM))?;
-    comparison.read::<F>(&with_beginning(bytes, &pack(&sound.header())))
+    for_all(dressed(bytes, sound).into(), |sheet| {
+        comparison.read::<F>(sheet)
+    })
+}
+
+/// The bytes as they are, with the right form, and with the header of a sound sheet.
+pub fn dressed<F: Form>(bytes: &[u8], sound: &F) -> [Vec<u8>; 3] {
+    [
+        bytes.to_vec(),
+        with_form(bytes, F::FORM),
+        with_beginning(bytes, &pack(&sound.header())),
+    ]
 }
 
 fn with_form(bytes: &[u8], form: u16) -> Vec<u8> {

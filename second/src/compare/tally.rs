@@ -1,34 +1,47 @@
 //! How often each entry was compared, and which answers it gave.
 
 use crate::library::{Answer, Entry};
-use std::collections::BTreeMap;
+use std::collections::{BTreeMap, BTreeSet};
+use std::ops::RangeInclusive;
+
+/// The numbers of judging, and how often each must be met at least: among all plans, and as the one rule broken.
+const JUDGING: RangeInclusive<u32> = 10..=18;
+const LEAST_OF_JUDGING: u64 = 20;
 
 pub struct Tally {
     answers: BTreeMap<(Entry, Outcome), u64>,
+    alone: BTreeMap<u32, u64>,
     pub round_trips: u64,
 }
 
 #[derive(Clone, Copy, PartialEq, Eq, PartialOrd, Ord)]
 enum Outcome {
     Done,
-    RefusedBy(u32),
+    Refused { paper: u32, number: u32 },
 }
 
 impl Tally {
     pub fn new() -> Tally {
         Tally {
             answers: BTreeMap::new(),
+            alone: BTreeMap::new(),
             round_trips: 0,
         }
     }
 
     pub fn count(&mut self, entry: Entry, answer: &Answer) {
         let outcome = if answer.is_refusal() {
-            Outcome::RefusedBy(answer.number)
+            let (paper, number) = (answer.paper, answer.number);
+            Outcome::Refused { paper, number }
         } else {
             Outcome::Done
         };
         *self.answers.entry((entry, outcome)).or_insert(0) += 1;
+    }
+
+    /// A plan breaks this rule and no other.
+    pub fn count_alone(&mut self, number: u32) {
+        *self.alone.entry(number).or_insert(0) += 1;
     }
 
     pub fn total(&self) -> u64 {
@@ -47,63 +60,143 @@ impl Tally {
         self.answers.get(&(entry, outcome)).copied().unwrap_or(0)
     }
 
-    /// One line for each answer that an entry can give but was never seen to give.
-    pub fn never_met(&self) -> Vec<String> {
-        let mut missing = Vec::new();
-        for entry in Entry::ALL {
-            let name = entry.name();
-            if self.times(entry, Outcome::Done) == 0 {
-                missing.push(format!("{name}: nothing was ever read or written"));
-            }
-            for number in entry.numbers() {
-                if self.times(entry, Outcome::RefusedBy(*number)) == 0 {
-                    missing.push(format!("{name}: refusal {number} was never met"));
-                }
-            }
-        }
-        missing
+    fn times_alone(&self, number: u32) -> u64 {
+        self.alone.get(&number).copied().unwrap_or(0)
     }
 
-    pub fn table(&self) -> String {
-        const NUMBERS: [u32; 8] = [1, 2, 3, 4, 5, 6, 7, 22];
-        let mut table = format!("{:<12}{:>12}{:>10}", "entry", "comparisons", "done");
-        for number in NUMBERS {
-            table += &format!("{number:>9}");
-        }
-        table += "\n";
-        for entry in Entry::ALL {
-            let compared = self.total_of(entry);
-            let done = self.times(entry, Outcome::Done);
-            table += &format!("{:<12}{compared:>12}{done:>10}", entry.name());
-            for number in NUMBERS {
-                let times = if entry.numbers().contains(&number) {
-                    self.times(entry, Outcome::RefusedBy(number)).to_string()
-                } else {
-                    "-".to_string()
-                };
-                table += &format!("{times:>9}");
+    /// One line for each answer that an entry can give but was seen to give too seldom.
+    pub fn met_too_seldom(&self) -> Vec<String> {
+        let mut lines = Vec::new();
+        let mut require = |what: String, times: u64, least: u64| {
+            if times < least {
+                lines.push(format!("{what}: met {times} times, not {least} or more"));
             }
-            table += "\n";
+        };
+        for entry in Entry::ALL {
+            let name = entry.name();
+            let done = self.times(entry, Outcome::Done);
+            require(format!("{name}, anything but a refusal"), done, 1);
+            for (paper, number) in refusals_of(entry) {
+                let times = self.times(entry, Outcome::Refused { paper, number });
+                let of_judging = JUDGING.contains(&number);
+                let least = if of_judging { LEAST_OF_JUDGING } else { 1 };
+                let what = format!("{name}, refusal {number}, paper {paper}");
+                require(what, times, least);
+            }
+        }
+        for number in JUDGING {
+            let what = format!("plans that break no rule but {number}");
+            require(what, self.times_alone(number), LEAST_OF_JUDGING);
+        }
+        lines
+    }
+
+    /// Entries across, papers and numbers down; behind them how often the number was that of the one rule broken.
+    pub fn table(&self) -> String {
+        let names = Entry::ALL.map(|entry| entry.name().to_string());
+        let totals = Entry::ALL.map(|entry| self.total_of(entry).to_string());
+        let done = Entry::ALL.map(|entry| self.times(entry, Outcome::Done).to_string());
+        let mut table = line("", &names, "alone");
+        table += &line("comparisons", &totals, "");
+        table += &line("done", &done, "");
+        let refusals: BTreeSet<(u32, u32)> = Entry::ALL.into_iter().flat_map(refusals_of).collect();
+        for (paper, number) in refusals {
+            let times = Entry::ALL.map(|entry| self.times_text(entry, paper, number));
+            let alone = if JUDGING.contains(&number) {
+                self.times_alone(number).to_string()
+            } else {
+                String::new()
+            };
+            table += &line(&format!("paper {paper}, {number:>2}"), &times, &alone);
         }
         table
     }
+
+    /// A dash where the entry cannot give this refusal.
+    fn times_text(&self, entry: Entry, paper: u32, number: u32) -> String {
+        if !refusals_of(entry).contains(&(paper, number)) {
+            return "-".to_string();
+        }
+        let times = self.times(entry, Outcome::Refused { paper, number });
+        times.to_string()
+    }
+}
+
+fn line(title: &str, cells: &[String], last: &str) -> String {
+    let mut line = format!("{title:<12}");
+    for cell in cells {
+        line += &format!("{cell:>13}");
+    }
+    line += &format!("{last:>13}");
+    line.trim_end().to_string() + "\n"
+}
+
+/// Paper and number of each refusal that the entry can give.
+fn refusals_of(entry: Entry) -> Vec<(u32, u32)> {
+    let mut refusals = Vec::new();
+    for &(paper, numbers) in entry.refusals() {
+        refusals.extend(numbers.iter().map(|number| (paper as u32, *number)));
+    }
+    refusals
 }
 
 #[cfg(test)]
 mod tests {
     use super::*;
-    use crate::refusal::Refusal;
+    use crate::refusal::{Fault, Paper, Refusal};
+
+    const EVERY_ANSWER: usize = (1 + 6) + (1 + 5) + (1 + 4) + (1 + 3) + (1 + 6 + 13);
 
     #[test]
     fn an_answer_never_met_is_named() {
         let mut tally = Tally::new();
-        assert_eq!(tally.never_met().len(), 6 + 5 + 4 + 3 + 4);
+        assert_eq!(tally.met_too_seldom().len(), EVERY_ANSWER + 9);
         tally.count(Entry::WriteJob, &Answer::refused(Refusal::OUTPUT_TOO_SHORT));
         tally.count(Entry::WriteJob, &Answer::written(6));
         assert_eq!(tally.total(), 2);
-        let missing = tally.never_met();
-        assert_eq!(missing.len(), 6 + 5 + 4 + 3 + 4 - 2);
-        assert!(missing.contains(&"job writer: refusal 7 was never met".to_string()));
-        assert!(!missing.contains(&"job writer: refusal 22 was never met".to_string()));
+        let missing = tally.met_too_seldom();
+        assert_eq!(missing.len(), EVERY_ANSWER + 9 - 2);
+        let line = "job writer, refusal 7, paper 0: met 0 times, not 1 or more";
+        assert!(missing.contains(&line.to_string()));
+        assert!(!missing
+            .iter()
+            .any(|line| line.contains("refusal 22, paper 4") && line.contains("job writer")));
+    }
+
+    #[test]
+    fn a_rule_met_19_times_is_named() {
+        let mut tally = Tally::new();
+        let fault = Fault::Chain;
+        let refused = Answer::refused(Refusal {
+            fault,
+            paper: Paper::Plan,
+        });
+        let lines = [
+            "judge, refusal 18, paper 1: met 19 times, not 20 or more",
+            "plans that break no rule but 18: met 19 times, not 20 or more",
+        ];
+        for times in 1..=20 {
+            tally.count(Entry::Judge, &refused);
+            tally.count_alone(fault as u32);
+            let missing = tally.met_too_seldom();
+            let named = lines.map(|line| missing.contains(&line.to_string()));
+            assert_eq!(named, [times == 19; 2]);
+        }
+    }
+
+    #[test]
+    fn papers_are_told_apart_in_the_table() {
+        let mut tally = Tally::new();
+        for paper in [Paper::Job, Paper::Plan, Paper::Plan] {
+            let fault = Fault::BitsRunOut;
+            tally.count(Entry::Judge, &Answer::refused(Refusal { fault, paper }));
+        }
+        let table = tally.table();
+        let judged = |title: &str| {
+            let line = table.lines().find(|line| line.starts_with(title));
+            line.and_then(|line| line.split_whitespace().last())
+        };
+        assert_eq!(judged("paper 0,  1"), Some("1"));
+        assert_eq!(judged("paper 1,  1"), Some("2"));
     }
 }

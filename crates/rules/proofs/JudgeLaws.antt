@@ -1,0 +1,54 @@
+-- Laws of the judge's answer.
+use Prim.Native.Nat.{ℕ, zero, suc}
+use mathlib.Core.Path.{_≡_, refl, sym, ap, _∙_}
+use mathlib.Core.List.{List}
+use borrow.Author.Tests.{eqb-true}
+use lib.Dec.{eqb, lit<}
+use Rattle.basics.specs.Counting.{sumTo}
+use Rattle.basics.specs.Numbers.{countsDiffer, paperPlan}
+use Rattle.basics.proofs.CountLaws.{and-both}
+use Rattle.basics.proofs.FaultLaws.{orElse-none, unless-none}
+use Rattle.sheets.specs.JobSheet.{readJob}
+use Rattle.sheets.specs.PlanSheet.{readPlan}
+use Rattle.sheets.specs.declared.Job.{Job}
+use Rattle.sheets.specs.declared.JobRead.{JobRead}
+use Rattle.sheets.specs.declared.PlanRead.{PlanRead}
+use Rattle.sheets.specs.declared.Reading.the-variants.{Read, Refused as Unread}
+use Rattle.sheets.specs.declared.Plan.{Plan}
+use Rattle.rules.specs.Model.{instCount}
+use Rattle.rules.specs.Selection.{selected, costAt, selectionCost}
+use Rattle.rules.specs.Judge.{countsFault, judgeFault, passOr, judged, ifRead, judge}
+use Rattle.rules.specs.declared.Judged.{Judged}
+use Rattle.rules.specs.declared.Judged.the-variants.{Passed, Refused}
+
+pub counts-agree : (j : Job) (p : Plan) → judgeFault j p ≡ 0 → (p .n ≡ j .n) × (p .k ≡ instCount j)
+unfolding judgeFault countsFault
+counts-agree j p h =
+    let a = and-both (eqb (p .n) (j .n)) (eqb (p .k) (instCount j)) (unless-none _ countsDiffer (lit< tt) (orElse-none _ _ h .0)) in
+    (eqb-true _ _ (a .0), eqb-true _ _ (a .1))
+
+pub judged-refused : (j : Job) (p : Plan) (k : ℕ) → k ≡ judgeFault j p → (k ≡ 0 → ⊥) → Refused k paperPlan ≡ judged j p
+unfolding judged passOr
+judged-refused j p zero e h = absurd (h refl)
+judged-refused j p (suc k) e h = rw (← e)
+
+pub judged-passed : (j : Job) (p : Plan) (cost : ℕ) → judgeFault j p ≡ 0 → cost ≡ sumTo (costAt (j .costs) (j .copies) (j .m) (selected (p .selection))) (p .k)
+    → Passed cost ≡ judged j p
+unfolding judged passOr selectionCost
+judged-passed j p cost z e = rw (z) (ap (λ (c : ℕ). Passed c) (e ∙ ap (sumTo (costAt (j .costs) (j .copies) (j .m) (selected (p .selection)))) (counts-agree j p z .1)))
+
+-- ---- a paper that cannot be read ends the question there
+
+module _ (job plan : List ℕ) (j : JobRead) (ej : j ≡ readJob job) where
+  pub unread-job : (n q : ℕ) (v : Judged) → j .answer ≡ Unread n q → v ≡ ifRead (j .answer) (Refused 0 0) → v ≡ judge job plan
+  unfolding judge ifRead
+  unread-job n q v e h = (rw e at h) ∙ sym (rw (← ej, e))
+
+  module _ (p : PlanRead) (ep : p ≡ readPlan plan) (rj : j .answer ≡ Read) where
+    pub unread-plan : (n q : ℕ) (v : Judged) → p .answer ≡ Unread n q → v ≡ ifRead (p .answer) (Refused 0 0) → v ≡ judge job plan
+    unfolding judge ifRead
+    unread-plan n q v e h = (rw e at h) ∙ sym (rw (← ej, ← ep, rj, e))
+
+    pub both-read : (v : Judged) → p .answer ≡ Read → v ≡ judged (j .job) (p .plan) → v ≡ judge job plan
+    unfolding judge ifRead
+    both-read v e h = h ∙ sym (rw (← ej, ← ep, rj, e))

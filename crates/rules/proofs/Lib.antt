@@ -1,0 +1,4 @@
+pub mod ModelLaws
+pub mod SelectionLaws
+pub mod ChainLaws
+pub mod JudgeLaws

@@ -1,0 +1,84 @@
+-- The loop has counted, of the types passed, those that the instance is behind.
+use Prim.Native.Nat.{_*_, _-_, _≤_}
+use mathlib.Core.Path.{_≡_}
+use native.Mathlib.Omega.{arith}
+use borrow.Author.Needs.{needs}
+use Rattle.basics.specs.Counting.{only, sumTo}
+use Rattle.basics.specs.Tables.{cell}
+use Rattle.basics.proofs.CountLaws.{only-small, sumTo-more}
+use Rattle.rules.specs.Model.{behind, typeIn}
+use Rattle.rules.proofs.ModelLaws.{behind-is}
+use Rattle.rules.proofs.model.type_of.Statement.{statement}
+use Rattle.rules.proofs.model.type_of.Tie as tie
+
+abbrev Inv-loop : tie.InvT-loop
+Inv-loop copies m i types sum₀ before₀ y₀ sum before y = (y ≤ types) × (before ≤ y) × (sum ≤ 65536 * y) × (sum ≡ sumTo (cell copies) y) × (before ≡ sumTo (behind copies i) y)
+
+abbrev μ-loop : tie.MeasureT-loop
+μ-loop copies m i types sum₀ before₀ y₀ sum before y = types - y
+
+-- a type is counted once
+counted : (c : tie.After-only Inv-loop μ-loop) → c .only .result ≤ 1
+counted c = rw (c .only .ensures) (only-small _ 1)
+
+loop-holds : tie.Need-loop-holds Inv-loop μ-loop
+unfolding sumTo
+loop-holds c = search needs
+
+cell-requires : tie.Need-cell-requires Inv-loop μ-loop
+cell-requires c κs = search needs
+
+cast-sum : tie.Need-cast-sum Inv-loop μ-loop
+cast-sum c = omega arith
+
+add-sum : tie.Need-add-sum Inv-loop μ-loop
+add-sum c = omega arith
+
+only-requires : tie.Need-only-requires Inv-loop μ-loop
+only-requires c κs = search needs
+
+cast-before : tie.Need-cast-before Inv-loop μ-loop
+cast-before c = omega (arith, counted c)
+
+add-before : tie.Need-add-before Inv-loop μ-loop
+add-before c = omega (arith, counted c)
+
+add-y : tie.Need-add-y Inv-loop μ-loop
+add-y c = omega arith
+
+loop-less : tie.Need-loop-less Inv-loop μ-loop
+loop-less c = omega arith
+
+loop-again : tie.Need-loop-again Inv-loop μ-loop
+loop-again c =
+    let i = c .before .before .before .loop .inv in
+    let k = counted c in
+    (omega arith, omega arith, omega (arith, c .before .cell .ensures .1), rw (sumTo-more, ← i .3, c .before .cell .ensures .0), rw (sumTo-more, ← i .4, behind-is, ← i .3, c .only .ensures, c .before .cell .ensures .0))
+
+cast-result : tie.Need-cast-result Inv-loop μ-loop
+cast-result c = omega arith
+
+returns : tie.Need-returns Inv-loop μ-loop
+unfolding typeIn
+returns c =
+    let e : c .before .loop .y ≡ c .before .before .before .args .m = omega arith in
+    (rw e at (c .before .loop .inv .4), omega arith)
+
+pub type-of-spec : {M : Type 1} → statement M
+type-of-spec =
+    tie.close
+    (tie.spec
+    Inv-loop
+    μ-loop
+    loop-holds
+    cell-requires
+    cast-sum
+    add-sum
+    only-requires
+    cast-before
+    add-before
+    add-y
+    loop-less
+    loop-again
+    cast-result
+    returns)

@@ -1,0 +1,48 @@
+-- The cells are read, and the test is the definition.
+use borrow.Author.Needs.{needs}
+use Rattle.basics.specs.Tables.{cell}
+use Rattle.rules.specs.Rules.{apart, shareOk}
+use Rattle.rules.proofs.resource.share_ok.Statement.{statement}
+use Rattle.rules.proofs.resource.share_ok.Tie as tie
+
+cell-requires : tie.Need-cell-requires
+cell-requires c κs = search needs
+
+cell-requires-2 : tie.Need-cell-requires-2
+cell-requires-2 c κs = search needs
+
+cell-requires-3 : tie.Need-cell-requires-3
+cell-requires-3 c κs = search needs
+
+cell-requires-4 : tie.Need-cell-requires-4
+cell-requires-4 c κs = search needs
+
+cell-requires-5 : tie.Need-cell-requires-5
+cell-requires-5 c κs = search needs
+
+apart-requires : tie.Need-apart-requires
+apart-requires c κs = search needs
+
+cell-requires-6 : tie.Need-cell-requires-6
+cell-requires-6 c κs = search needs
+
+apart-requires-2 : tie.Need-apart-requires-2
+apart-requires-2 c κs = search needs
+
+returns : tie.Need-returns
+unfolding shareOk
+returns c = simp (c .apart2 .ensures, c .before .cell6 .ensures .0, c .before .before .apart .ensures, c .before .before .before .cell5 .ensures .0, c .before .before .before .before .cell4 .ensures .0, c .before .before .before .before .before .cell3 .ensures .0, c .before .before .before .before .before .before .cell2 .ensures .0, c .before .before .before .before .before .before .before .cell .ensures .0)
+
+pub share-ok-spec : {M : Type 1} → statement M
+share-ok-spec =
+    tie.close
+    (tie.spec
+    cell-requires
+    cell-requires-2
+    cell-requires-3
+    cell-requires-4
+    cell-requires-5
+    apart-requires
+    cell-requires-6
+    apart-requires-2
+    returns)

@@ -1,0 +1,46 @@
+-- The first instance has none before it.
+use mathlib.Core.Path.{sym}
+use native.Mathlib.Omega.{arith}
+use borrow.Author.Needs.{needs}
+use Rattle.rules.specs.Selection.{orderAt, selected}
+use Rattle.rules.proofs.SelectionLaws.{order-behind}
+use Rattle.rules.proofs.selection.order_at.Statement.{statement}
+use Rattle.rules.proofs.selection.order_at.Tie as tie
+
+returns : tie.Need-returns
+unfolding orderAt
+returns c = sym (rw (c .if1 .taken))
+
+sub-type-of : tie.Need-sub-type-of
+sub-type-of c = omega arith
+
+type-of-requires : tie.Need-type-of-requires
+type-of-requires c κs = search needs
+
+type-of-requires-2 : tie.Need-type-of-requires-2
+type-of-requires-2 c κs = search needs
+
+sub-selected : tie.Need-sub-selected
+sub-selected c = omega arith
+
+selected-requires : tie.Need-selected-requires
+selected-requires c κs = search needs
+
+selected-requires-2 : tie.Need-selected-requires-2
+selected-requires-2 c κs = search needs
+
+returns-2 : tie.Need-returns-2
+returns-2 c = order-behind _ _ _ _ _ (c .before .before .before .before .if1 .left) (simp (c .selected2 .ensures, c .before .selected .ensures, c .before .before .type-of2 .ensures .0, c .before .before .before .type-of .ensures .0))
+
+pub order-at-spec : {M : Type 1} → statement M
+order-at-spec =
+    tie.close
+    (tie.spec
+    returns
+    sub-type-of
+    type-of-requires
+    type-of-requires-2
+    sub-selected
+    selected-requires
+    selected-requires-2
+    returns-2)

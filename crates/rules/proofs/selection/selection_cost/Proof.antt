@@ -1,0 +1,82 @@
+-- The loop has added up what the instances passed cost.
+use Prim.Native.Nat.{_*_, _-_, _≤_}
+use mathlib.Core.Path.{_≡_}
+use native.Mathlib.Omega.{arith}
+use borrow.Author.Needs.{needs}
+use Rattle.basics.specs.Counting.{only, sumTo}
+use Rattle.basics.specs.Tables.{cell}
+use Rattle.basics.proofs.CountLaws.{only-small, sumTo-more}
+use Rattle.rules.specs.Selection.{costAt, selected}
+use Rattle.rules.proofs.selection.selection_cost.Statement.{statement}
+use Rattle.rules.proofs.selection.selection_cost.Tie as tie
+
+abbrev Inv-loop : tie.InvT-loop
+Inv-loop costs copies m selection k count sum₀ i₀ sum i = (i ≤ count) × (sum ≤ 65535 * i) × (sum ≡ sumTo (costAt costs copies m (selected selection)) i)
+
+abbrev μ-loop : tie.MeasureT-loop
+μ-loop costs copies m selection k count sum₀ i₀ sum i = count - i
+
+-- what an instance adds is at most a cost
+small : (c : tie.After-only Inv-loop μ-loop) → c .only .result ≤ 65535
+small c = let k = only-small (c .before .before .selected .result) (c .before .cell .result) in omega (arith, c .only .ensures, c .before .cell .ensures .1)
+
+loop-holds : tie.Need-loop-holds Inv-loop μ-loop
+unfolding sumTo
+loop-holds c = search needs
+
+type-of-requires : tie.Need-type-of-requires Inv-loop μ-loop
+type-of-requires c κs = search needs
+
+selected-requires : tie.Need-selected-requires Inv-loop μ-loop
+selected-requires c κs = search needs
+
+cast-cell : tie.Need-cast-cell Inv-loop μ-loop
+cast-cell c = omega arith
+
+cell-requires : tie.Need-cell-requires Inv-loop μ-loop
+cell-requires c κs = search needs
+
+cast-only : tie.Need-cast-only Inv-loop μ-loop
+cast-only c = omega arith
+
+only-requires : tie.Need-only-requires Inv-loop μ-loop
+only-requires c κs = search needs
+
+add-sum : tie.Need-add-sum Inv-loop μ-loop
+add-sum c = omega (arith, small c)
+
+add-i : tie.Need-add-i Inv-loop μ-loop
+add-i c = omega arith
+
+loop-less : tie.Need-loop-less Inv-loop μ-loop
+loop-less c = omega arith
+
+loop-again : tie.Need-loop-again Inv-loop μ-loop
+unfolding costAt
+loop-again c =
+    let l = c .before .before .before .before .before .loop .inv in
+    (omega arith, omega (arith, small c), rw (sumTo-more, ← l .2, c .only .ensures, c .before .cell .ensures .0, c .before .before .selected .ensures, c .before .before .before .type-of .ensures .0))
+
+returns : tie.Need-returns Inv-loop μ-loop
+returns c =
+    let e : c .before .loop .i ≡ c .before .before .before .before .before .args .k = omega arith in
+    rw e at (c .before .loop .inv .2)
+
+pub selection-cost-spec : {M : Type 1} → statement M
+selection-cost-spec =
+    tie.close
+    (tie.spec
+    Inv-loop
+    μ-loop
+    loop-holds
+    type-of-requires
+    selected-requires
+    cast-cell
+    cell-requires
+    cast-only
+    only-requires
+    add-sum
+    add-i
+    loop-less
+    loop-again
+    returns)

@@ -1,0 +1,5 @@
+pub mod Model
+pub mod Selection
+pub mod Rules
+pub mod Judge
+pub mod Meets

@@ -1,0 +1,75 @@
+-- The rules of a plan as a person reads them: `Meets job plan` has a field for each.
+use Prim.Native.Nat.{ℕ, _+_, _-_, _<_, _≤_}
+use mathlib.Core.Path.{_≡_}
+use mathlib.Core.Logic.{_⊎_}
+use mathlib.Core.List.{List, [], _∷_}
+use lib.ListN.{length}
+use Rattle.basics.specs.Tables.{cell}
+use Rattle.sheets.specs.declared.Job.{Job}
+use Rattle.sheets.specs.declared.Plan.{Plan}
+use Rattle.rules.specs.Model.{instCount, typeOf, timeOf, delayOf, spacingOf}
+
+-- a link of the job leads from a to b
+pub record Link (j : Job) (a b : ℕ) : Type 0 where
+  pub number : ℕ
+  pub below : number < j .e
+  pub leaves : cell (j .from) number ≡ a
+  pub enters : cell (j .to) number ≡ b
+
+-- successive links join the operations of a run
+abbrev pub Joined : Job → List ℕ → Type 0
+Joined j [] = Unit {0}
+Joined j (a ∷ []) = Unit {0}
+Joined j (a ∷ b ∷ run) = Link j a b × Joined j (b ∷ run)
+
+module _ (j : Job) (p : Plan) where
+  abbrev pub Selected : ℕ → Type 0
+  Selected i = cell (p .selection) i ≡ 1
+
+  abbrev pub start : ℕ → ℕ
+  start o = cell (p .starts) o
+
+  abbrev pub inst : ℕ → ℕ
+  inst o = cell (p .insts) o
+
+  -- an operation's time, delay and spacing are those on its instance
+  abbrev pub time : ℕ → ℕ
+  time o = timeOf j o (inst o)
+
+  abbrev pub delay : ℕ → ℕ
+  delay o = delayOf j o (inst o)
+
+  abbrev pub spacing : ℕ → ℕ
+  spacing o = spacingOf j o (inst o)
+
+  -- every operation of the run starts in step s
+  abbrev pub AllIn : ℕ → List ℕ → Type 0
+  AllIn s [] = Unit {0}
+  AllIn s (o ∷ run) = (start o ≡ s) × AllIn s run
+
+  -- the times of a run, plus one wire for each link
+  abbrev pub runTotal : List ℕ → ℕ
+  runTotal [] = 0
+  runTotal (a ∷ []) = time a
+  runTotal (a ∷ b ∷ run) = time a + j .wire + runTotal (b ∷ run)
+
+  pub record Row (o : ℕ) : Type 0 where
+    pub instance : inst o < instCount j
+    pub able : 0 < time o
+    pub chosen : Selected (inst o)
+    pub begins : 1 ≤ start o
+    pub ends : start o + delay o - 1 ≤ j .t
+
+  pub record Meets : Type 0 where
+    -- one row for each operation, one selection bit for each instance
+    pub operations : p .n ≡ j .n
+    pub instances : p .k ≡ instCount j
+    -- within a type no selected instance precedes an unselected one
+    pub order : (i k : ℕ) → i < k → k < instCount j → typeOf j i ≡ typeOf j k → Selected i → Selected k
+    pub rows : (o : ℕ) → o < j .n → Row o
+    pub precedence : (a b : ℕ) → Link j a b → (start a + delay a ≤ start b) ⊎ ((start a ≡ start b) × (delay a ≡ 1) × (delay b ≡ 1))
+    -- two operations on one instance, a not the later
+    pub resource : (a b : ℕ) → a < j .n → b < j .n → (a ≡ b → ⊥) → inst a ≡ inst b → start a ≤ start b
+        → (start a < start b) × (start a + spacing b ≤ start b)
+    -- operations joined by successive links and all started in one step, two or more
+    pub chains : (s : ℕ) (run : List ℕ) → 2 ≤ length run → Joined j run → AllIn s run → runTotal run ≤ j .clock

@@ -1,0 +1,87 @@
+-- What a job says of its instances, which are numbered type by type: `instCount` is K and `typeOf` an instance's type;
+-- `timeOf`, `delayOf` and `spacingOf` are an operation's on an instance, `timingOf` has those of a plan's rows, `tablesOf` all.
+use Prim.Native.Nat.{ℕ, suc, _+_, _-_, _*_, _/_, _%_}
+use mathlib.Core.List.{List}
+use lib.Dec.{leb}
+use Rattle.basics.specs.Counting.{sumTo, only}
+use Rattle.basics.specs.Tables.{cell, cells}
+use Rattle.sheets.specs.Limits.{kindCount, instCells, opCells}
+use Rattle.sheets.specs.declared.Job.{Job}
+use Rattle.rules.specs.declared.Tables.{Tables}
+use Rattle.rules.specs.declared.Timing.{Timing}
+
+-- ---- instances
+
+abbrev pub instCount : Job → ℕ
+instCount j = sumTo (cell (j .copies)) (j .m)
+
+-- 1 where instance i is behind every instance of type y, else 0
+unfoldable pub behind : List ℕ → ℕ → ℕ → ℕ
+behind copies i y = only (leb (sumTo (cell copies) (suc y)) i) 1
+
+-- the type of instance i, where there are m types: how many of them it is behind
+unfoldable pub typeIn : List ℕ → ℕ → ℕ → ℕ
+typeIn copies m i = sumTo (behind copies i) m
+
+abbrev pub typeOf : Job → ℕ → ℕ
+typeOf j i = typeIn (j .copies) (j .m) i
+
+-- ---- what operation o takes on instance i
+
+-- out of `pairs`, the times or the intervals of each kind at each type
+abbrev pub spanOf : List ℕ → ℕ → List ℕ → List ℕ → ℕ → ℕ → ℕ
+spanOf copies m kinds pairs o i = cell pairs (kindCount * typeIn copies m i + cell kinds o)
+
+-- the same, where the types of instances stand in a table
+abbrev pub spanAt : List ℕ → List ℕ → List ℕ → ℕ → ℕ → ℕ
+spanAt types kinds pairs o i = cell pairs (kindCount * cell types i + cell kinds o)
+
+-- its time in ns, 0 where the instance cannot do it
+abbrev pub timeOf : Job → ℕ → ℕ → ℕ
+timeOf j o i = spanOf (j .copies) (j .m) (j .kinds) (j .times) o i
+
+abbrev pub intervalOf : Job → ℕ → ℕ → ℕ
+intervalOf j o i = spanOf (j .copies) (j .m) (j .kinds) (j .intervals) o i
+
+-- a / b, rounded up
+unfoldable pub roundedUp : ℕ → ℕ → ℕ
+roundedUp a b = (a + (b - 1)) / b
+
+-- span c of a table, in steps
+abbrev pub stepsAt : List ℕ → ℕ → ℕ → ℕ
+stepsAt spans clock c = roundedUp (cell spans c) clock
+
+-- its delay and its spacing, in steps
+abbrev pub delayOf : Job → ℕ → ℕ → ℕ
+delayOf j o i = roundedUp (timeOf j o i) (j .clock)
+
+abbrev pub spacingOf : Job → ℕ → ℕ → ℕ
+spacingOf j o i = roundedUp (intervalOf j o i) (j .clock)
+
+-- ---- the same for every operation on the instance that a row gives it
+
+-- cell o of a table of `of o i`
+abbrev pub rowAt : (ℕ → ℕ → ℕ) → List ℕ → ℕ → ℕ
+rowAt of insts o = of o (cell insts o)
+
+abbrev pub rowTable : (ℕ → ℕ → ℕ) → List ℕ → List ℕ
+rowTable of insts = cells (rowAt of insts) opCells opCells
+
+unfoldable pub timingOf : Job → List ℕ → Timing
+timingOf j insts =
+    record { times = rowTable (timeOf j) insts; delays = rowTable (delayOf j) insts; spacings = rowTable (spacingOf j) insts }
+
+-- ---- the same for every operation on every instance: operation o on instance i has cell instCells * o + i
+
+abbrev pub unitCells : ℕ
+unitCells = opCells * instCells
+
+-- cell c of a table of `of o i`
+abbrev pub unitAt : (ℕ → ℕ → ℕ) → ℕ → ℕ
+unitAt of c = of (c / instCells) (c % instCells)
+
+abbrev pub unitTable : (ℕ → ℕ → ℕ) → List ℕ
+unitTable of = cells (unitAt of) unitCells unitCells
+
+unfoldable pub tablesOf : Job → Tables
+tablesOf j = record { times = unitTable (timeOf j); delays = unitTable (delayOf j); spacings = unitTable (spacingOf j) }

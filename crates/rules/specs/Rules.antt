@@ -1,0 +1,116 @@
+-- The rules on rows, precedence, resource and chain, each among the operations that are placed: `starts` and `insts` hold
+-- each operation's start and instance, and start 0 is not placed. Judge, walk and notes share them.
+use Prim.Native.Nat.{ℕ, zero, suc, _+_, _*_, _≤_, max}
+use mathlib.Core.Bool.{Bool, true, false, not, _||_, _&&_}
+use mathlib.Core.List.{List}
+use lib.Dec.{ltb, leb, eqb}
+use lib.ListN.{set, replicate}
+use Rattle.basics.specs.Counting.{allTo}
+use Rattle.basics.specs.Faults.{_orElse_, faultUnless, first}
+use Rattle.basics.specs.Numbers.{rowInstance, rowKind, rowUnselected, rowStep}
+use Rattle.basics.specs.Tables.{cell}
+use Rattle.sheets.specs.Limits.{opCells}
+use Rattle.sheets.specs.declared.Job.{Job}
+use Rattle.rules.specs.Model.{instCount, timeOf, delayOf, spacingOf, rowTable}
+use Rattle.rules.specs.Selection.{selected}
+
+-- ---- row: instance below K, able to do the kind, selected; start at least 1, start + delay - 1 at most T
+
+-- (in whole numbers: start + delay at most T + 1)
+unfoldable pub rowFault : ℕ → ℕ → ℕ → ℕ → Bool → ℕ → ℕ → ℕ
+rowFault k t inst time chosen start delay =
+    faultUnless (ltb inst k) rowInstance orElse
+    faultUnless (ltb 0 time) rowKind orElse
+    faultUnless chosen rowUnselected orElse
+    faultUnless (leb 1 start && leb (start + delay) (t + 1)) rowStep
+
+-- the row of operation o, where `times` and `delays` are those of each on its instance
+unfoldable pub rowFaultAt : ℕ → ℕ → List ℕ → List ℕ → List ℕ → List ℕ → List ℕ → ℕ → ℕ
+rowFaultAt k t starts insts times delays selection o =
+    rowFault k t (cell insts o) (cell times o) (selected selection (cell insts o)) (cell starts o) (cell delays o)
+
+-- ---- both ends of a link are placed
+
+abbrev pub placed : List ℕ → ℕ → Bool
+placed starts o = ltb 0 (cell starts o)
+
+unfoldable pub joins : List ℕ → List ℕ → List ℕ → ℕ → Bool
+joins from to starts l = placed starts (cell from l) && placed starts (cell to l)
+
+-- ---- precedence: of a link (a, b), b starts when a has ended, or both start together and both delays are 1
+
+unfoldable pub precedes : ℕ → ℕ → ℕ → ℕ → Bool
+precedes start delay start' delay' = leb (start + delay) start' || (eqb start start' && eqb delay 1 && eqb delay' 1)
+
+unfoldable pub linkOk : List ℕ → List ℕ → List ℕ → List ℕ → ℕ → Bool
+linkOk from to starts delays l =
+    not (joins from to starts l)
+    || precedes (cell starts (cell from l)) (cell delays (cell from l)) (cell starts (cell to l)) (cell delays (cell to l))
+
+-- ---- resource: two operations on one instance start apart, by at least the spacing of the later
+
+abbrev pub apart : ℕ → ℕ → ℕ → Bool
+apart start later spacing = ltb start later && leb (start + spacing) later
+
+unfoldable pub shareOk : List ℕ → List ℕ → List ℕ → ℕ → ℕ → Bool
+shareOk starts insts spacings b a =
+    not (placed starts a && placed starts b && eqb (cell insts a) (cell insts b))
+    || apart (cell starts a) (cell starts b) (cell spacings b)
+    || apart (cell starts b) (cell starts a) (cell spacings a)
+
+-- operation b with each before it
+unfoldable pub besideOk : List ℕ → List ℕ → List ℕ → ℕ → Bool
+besideOk starts insts spacings b = allTo (shareOk starts insts spacings b) b
+
+-- ---- chain: the times of a run within a step, with one wire a link, total at most the clock
+
+unfoldable pub sameStep : List ℕ → List ℕ → List ℕ → ℕ → Bool
+sameStep from to starts l = joins from to starts l && eqb (cell starts (cell from l)) (cell starts (cell to l))
+
+-- link l's first operation carries on what was brought to it, its own time and a wire
+unfoldable pub carried : List ℕ → ℕ → List ℕ → List ℕ → ℕ → ℕ
+carried from wire times brought l = cell brought (cell from l) + cell times (cell from l) + wire
+
+-- the table with x in cell b, where less stands there
+unfoldable pub raised : List ℕ → ℕ → ℕ → List ℕ
+raised table b x = set table b (max (cell table b) x)
+
+unfoldable pub raisedIf : Bool → List ℕ → ℕ → ℕ → List ℕ
+raisedIf true table b x = raised table b x
+raisedIf false table b x = table
+
+-- link l brings that to its second operation, where it joins two in one step
+unfoldable pub brings : List ℕ → List ℕ → ℕ → List ℕ → List ℕ → List ℕ → ℕ → List ℕ
+brings from to wire starts times brought l = raisedIf (sameStep from to starts l) brought (cell to l) (carried from wire times brought l)
+
+-- the most that runs over links 0 to l - 1 bring to each operation, its own time not counted
+unfoldable pub broughtBy : List ℕ → List ℕ → ℕ → List ℕ → List ℕ → ℕ → List ℕ
+broughtBy from to wire starts times zero = replicate opCells 0
+broughtBy from to wire starts times (suc l) = brings from to wire starts times (broughtBy from to wire starts times l) l
+
+-- the longest run that ends with link l, where the runs before it have brought so much
+unfoldable pub runOk : List ℕ → List ℕ → ℕ → ℕ → List ℕ → List ℕ → List ℕ → ℕ → Bool
+runOk from to wire clock starts times brought l =
+    not (sameStep from to starts l) || leb (carried from wire times brought l + cell times (cell to l)) clock
+
+abbrev pub runOkAt : List ℕ → List ℕ → ℕ → ℕ → List ℕ → List ℕ → ℕ → Bool
+runOkAt from to wire clock starts times l = runOk from to wire clock starts times (broughtBy from to wire starts times l) l
+
+-- (a bound on what l links can bring, that sums of it fit)
+abbrev pub Bounded : List ℕ → ℕ → Type 0
+Bounded brought l = (o : ℕ) → cell brought o ≤ 131072 * l
+
+-- ---- of a job
+
+unfoldable pub rowsFault : Job → List ℕ → List ℕ → List ℕ → ℕ
+rowsFault j starts insts selection =
+    first (rowFaultAt (instCount j) (j .t) starts insts (rowTable (timeOf j) insts) (rowTable (delayOf j) insts) selection) (j .n)
+
+unfoldable pub precedenceOk : Job → List ℕ → List ℕ → Bool
+precedenceOk j starts insts = allTo (linkOk (j .from) (j .to) starts (rowTable (delayOf j) insts)) (j .e)
+
+unfoldable pub resourceOk : Job → List ℕ → List ℕ → Bool
+resourceOk j starts insts = allTo (besideOk starts insts (rowTable (spacingOf j) insts)) (j .n)
+
+unfoldable pub chainsOk : Job → List ℕ → List ℕ → Bool
+chainsOk j starts insts = allTo (runOkAt (j .from) (j .to) (j .wire) (j .clock) starts (rowTable (timeOf j) insts)) (j .e)

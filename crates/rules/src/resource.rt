@@ -1,0 +1,57 @@
+// The rule on operations that share an instance.
+ghost use mathlib.Core.Path.{_≡_};
+ghost use Rattle.basics.specs.Counting.{allTo};
+ghost use Rattle.rules.specs.Rules.{apart as apartBy, shareOk, besideOk};
+use basics::cell;
+
+// The later start exceeds the other by at least the later operation's spacing.
+pub fn apart(start: u16, later: u16, spacing: u16) -> bool
+    ensures { λ r. ⌜ r ≡ apartBy start later spacing ⌝ }
+{
+    (start < later) & (start as u32 + spacing as u32 <= later as u32)
+}
+
+// Operations a and b are not both placed on one instance, or start apart.
+fn share_ok<'a>(
+    starts: &'a [u16],
+    insts: &'a [u16],
+    spacings: &'a [u16],
+    b: usize,
+    a: usize,
+) -> bool
+    ensures { λ r. ⌜ r ≡ shareOk (now (starts .entry)) (now (insts .entry)) (now (spacings .entry)) b a ⌝ }
+{
+    let start_a = cell(starts, a);
+    let start_b = cell(starts, b);
+    let shared = (0 < start_a) & (0 < start_b) & (cell(insts, a) == cell(insts, b));
+    !shared
+        | apart(start_a, start_b, cell(spacings, b))
+        | apart(start_b, start_a, cell(spacings, a))
+}
+
+// Operation b with each before it.
+fn beside_ok<'a>(starts: &'a [u16], insts: &'a [u16], spacings: &'a [u16], b: usize) -> bool
+    ensures { λ r. ⌜ r ≡ besideOk (now (starts .entry)) (now (insts .entry)) (now (spacings .entry)) b ⌝ }
+{
+    let mut ok = true;
+    let mut a: usize = 0;
+    while a < b {
+        ok = ok & share_ok(starts, insts, spacings, b, a);
+        a += 1;
+    }
+    ok
+}
+
+// Each of the first n operations with each before it.
+pub fn shares_ok<'a>(starts: &'a [u16], insts: &'a [u16], spacings: &'a [u16], n: u16) -> bool
+    ensures { λ r. ⌜ r ≡ allTo (besideOk (now (starts .entry)) (now (insts .entry)) (now (spacings .entry))) n ⌝ }
+{
+    let ops = n as usize;
+    let mut ok = true;
+    let mut b: usize = 0;
+    while b < ops {
+        ok = ok & beside_ok(starts, insts, spacings, b);
+        b += 1;
+    }
+    ok
+}

@@ -1,0 +1,210 @@
+//! The rules of a plan, each by itself.
+
+use crate::job::{Ability, Job};
+use crate::plan::{Plan, Row};
+use crate::refusal::Fault;
+
+/// Where an operation is placed: its row, and what the row's instance needs for the operation's kind.
+#[derive(Clone, Copy, Debug, PartialEq, Eq)]
+pub struct Place {
+    pub start: u16,
+    pub instance: u16,
+    /// In ns.
+    pub time: u16,
+    /// Time / clock rounded up, in steps.
+    pub delay: u16,
+    /// Interval / clock rounded up, in steps.
+    pub spacing: u16,
+}
+
+impl Place {
+    /// None where the instance is not below K, or not able to do the operation's kind.
+    pub fn of(job: &Job, operation: usize, row: Row) -> Option<Place> {
+        let Ability { time, interval } = ability(job, operation, row)?;
+        if time == 0 {
+            return None;
+        }
+        Some(Place {
+            start: row.start,
+            instance: row.instance,
+            time,
+            delay: time.div_ceil(job.clock),
+            spacing: interval.div_ceil(job.clock),
+        })
+    }
+
+    /// The last step of the operation.
+    pub fn finish(&self) -> u16 {
+        self.start + self.delay - 1
+    }
+}
+
+/// What the row's instance does with the operation's kind. None where the instance is not below K.
+fn ability(job: &Job, operation: usize, row: Row) -> Option<Ability> {
+    let unit = job.instance_types().nth(usize::from(row.instance))?;
+    Some(unit.abilities[usize::from(job.kinds[operation])])
+}
+
+pub fn counts_are_equal(job: &Job, plan: &Plan) -> bool {
+    plan.rows.len() == job.kinds.len() && plan.selection.len() == job.instances()
+}
+
+/// Selection order: within a type no selected instance precedes an unselected one.
+pub fn selection_order_holds(job: &Job, plan: &Plan) -> bool {
+    let mut next = 0;
+    for unit in &job.types {
+        let first = next;
+        next += usize::from(unit.copies);
+        for instance in first..next {
+            let unselected_follows = plan.selection[instance..next].contains(&false);
+            if plan.selection[instance] && unselected_follows {
+                return false;
+            }
+        }
+    }
+    true
+}
+
+/// What the operation's row breaks, in the order of the refusals. Where the operation has no place there is no delay
+/// either, and of the last rule only the start is left to ask for.
+pub fn broken_by_row(job: &Job, plan: &Plan, operation: usize) -> Vec<Fault> {
+    let row = plan.rows[operation];
+    let place = Place::of(job, operation, row);
+    let selected = plan.selection.get(usize::from(row.instance));
+    let mut broken = Vec::new();
+    if selected.is_none() {
+        broken.push(Fault::RowInstance);
+    } else if place.is_none() {
+        broken.push(Fault::RowKind);
+    }
+    if selected == Some(&false) {
+        broken.push(Fault::RowUnselected);
+    }
+    if row.start < 1 || place.is_some_and(|place| place.finish() > job.deadline) {
+        broken.push(Fault::RowStep);
+    }
+    broken
+}
+
+/// Precedence: for a link (a, b), b's start is at least a's start + a's delay, or both starts are equal and both delays
+/// are 1. Here as below, one place for each operation, None while it is not placed.
+pub fn precedence_holds(job: &Job, places: &[Option<Place>]) -> bool {
+    for link in &job.links {
+        let ends = [link.from, link.to].map(|operation| places[usize::from(operation)]);
+        let [Some(a), Some(b)] = ends else { continue };
+        let chained = a.start == b.start && a.delay == 1 && b.delay == 1;
+        if b.start < a.start + a.delay && !chained {
+            return false;
+        }
+    }
+    true
+}
+
+/// Resource: two operations on one instance have different starts, and the later start exceeds the earlier by at least
+/// the spacing of the later operation.
+pub fn resource_holds(places: &[Option<Place>]) -> bool {
+    for (operation, one) in places.iter().enumerate() {
+        for other in &places[operation + 1..] {
+            let (Some(one), Some(other)) = (one, other) else {
+                continue;
+            };
+            if one.instance == other.instance && !are_spaced(one, other) {
+                return false;
+            }
+        }
+    }
+    true
+}
+
+fn are_spaced(one: &Place, other: &Place) -> bool {
+    let (earlier, later) = if one.start < other.start {
+        (one, other)
+    } else {
+        (other, one)
+    };
+    earlier.start != later.start && later.start - earlier.start >= later.spacing
+}
+
+/// Chain: for operations joined by successive links and all started in one step, two or more, the times plus one wire
+/// for each link total at most the clock. Every such run of operations is gone through.
+pub fn chain_holds(job: &Job, places: &[Option<Place>]) -> bool {
+    let mut run = Vec::new();
+    (0..places.len()).all(|first| runs_hold(job, places, &mut run, first))
+}
+
+/// The run with this operation put to its end, and every run that goes on from there.
+fn runs_hold(job: &Job, places: &[Option<Place>], run: &mut Vec<usize>, end: usize) -> bool {
+    run.push(end);
+    let mut hold = run.len() < 2 || total(job, places, run) <= usize::from(job.clock);
+    for link in &job.links {
+        let [from, to] = [link.from, link.to].map(usize::from);
+        if from == end && start_in_one_step(places[from], places[to]) {
+            hold = hold && runs_hold(job, places, run, to);
+        }
+    }
+    run.pop();
+    hold
+}
+
+fn start_in_one_step(a: Option<Place>, b: Option<Place>) -> bool {
+    match (a, b) {
+        (Some(a), Some(b)) => a.start == b.start,
+        _ => false,
+    }
+}
+
+/// The times of the run's operations plus one wire for each of its links.
+fn total(job: &Job, places: &[Option<Place>], run: &[usize]) -> usize {
+    let placed = run.iter().filter_map(|&operation| places[operation]);
+    let times: usize = placed.map(|place| usize::from(place.time)).sum();
+    times + usize::from(job.wire) * (run.len() - 1)
+}
+
+/// The sum of costs of selected instances.
+pub fn cost(job: &Job, plan: &Plan) -> u32 {
+    let mut cost = 0;
+    for (unit, selected) in job.instance_types().zip(&plan.selection) {
+        if *selected {
+            cost += u32::from(unit.cost);
+        }
+    }
+    cost
+}
+
+#[cfg(test)]
+mod tests {
+    use super::*;
+    use crate::samples::{empty_job, unit_for_one_kind};
+
+    /// The place of one operation that needs this time.
+    fn place(time: u16, clock: u16, row: Row) -> Option<Place> {
+        let job = Job {
+            kinds: vec![0],
+            types: vec![unit_for_one_kind(0, 1, 2, time)],
+            clock,
+            ..empty_job()
+        };
+        Place::of(&job, 0, row)
+    }
+
+    #[test]
+    fn delay_and_spacing_are_rounded_up() {
+        let row = Row {
+            start: 2,
+            instance: 1,
+        };
+        for (time, clock, delay) in [(163, 55, 3), (165, 55, 3), (166, 55, 4), (1, 55, 1)] {
+            let place = place(time, clock, row).expect("a place");
+            assert_eq!([place.delay, place.spacing], [delay; 2]);
+            assert_eq!(place.finish(), 2 + delay - 1);
+        }
+    }
+
+    #[test]
+    fn no_place_beyond_k_or_for_a_kind_not_done() {
+        let [last, beyond] = [1, 2].map(|instance| Row { start: 1, instance });
+        assert!(place(10, 55, last).is_some());
+        assert_eq!(place(10, 55, beyond), None);
+        assert_eq!(place(0, 55, last), None);
+    }
+}
