@@ -6,7 +6,6 @@ use borrow.Author.Needs.{needs}
 use Rattle.basics.specs.Faults.{first}
 use Rattle.basics.specs.Tables.{cell}
 use Rattle.basics.proofs.FaultLaws.{first-at, first-more}
-use Rattle.rules.specs.Meets.{rows}
 use Rattle.rules.specs.Rules.{rowFaultAt}
 use Rattle.rules.specs.Selection.{selected}
 use Rattle.rules.proofs.rows.rows_fault.Statement.{statement}
