@@ -7,10 +7,11 @@ use native.Mathlib.Decide.{ℕ-discrete, decLt}
 use native.Mathlib.Nat.{max-eq-left, max-eq-right, max-le}
 use native.Mathlib.Numerals.{add-one}
 use native.Mathlib.Omega.{arith}
+use lib.Dec.{leb}
 use lib.ListN.{length, getD, set, length-set}
 use lib.Seq.{set-out, set-getD, getD-set-same, getD-set-other}
 use Rattle.basics.specs.Tables.{cell}
-use Rattle.rules.specs.Rules.{sameStep, carried, raised, raisedIf, brings, broughtBy, Bounded}
+use Rattle.rules.specs.Rules.{sameStep, carried, raised, raisedIf, brings, broughtBy, runOk, Bounded}
 
 -- ---- a raised cell
 
@@ -77,10 +78,23 @@ module _ (from to : List ℕ) (wire : ℕ) (starts times : List ℕ) where
   -- with the bound
   pub bound-on : (brought after : List ℕ) (l x b : ℕ) → sameStep from to starts l ≡ true → x ≡ carried from wire times brought l → x ≤ 131072 * (l + 1) → Bounded brought l
       → b ≡ cell to l → after ≡ raised brought b x → (after ≡ brings from to wire starts times brought l) × Bounded after (l + 1)
-  bound-on brought after l x b h e q w d a =
-      (a ∙ ap (λ (t : ℕ). raised brought t x) d ∙ ap (raised brought (cell to l)) e ∙ sym (brings-on brought l h),
-      rw a (raised-most brought b x (131072 * (l + 1)) (λ o. omega (arith, w o)) q))
+  bound-on brought after l x b h e q w d a = (
+    a ∙ ap (λ (t : ℕ). raised brought t x) d ∙ ap (raised brought (cell to l)) e ∙ sym (brings-on brought l h),
+    rw a (raised-most brought b x (131072 * (l + 1)) (λ o. omega (arith, w o)) q),
+  )
 
   pub bound-off : (brought : List ℕ) (l : ℕ) → sameStep from to starts l ≡ false → Bounded brought l
       → (brought ≡ brings from to wire starts times brought l) × Bounded brought (l + 1)
   bound-off brought l h w = (sym (brings-off brought l h), λ o. omega (arith, w o))
+
+-- ---- the test of one link
+
+module _ (from to : List ℕ) (wire clock : ℕ) (starts times brought : List ℕ) (l : ℕ) where
+  pub run-off : sameStep from to starts l ≡ false → true ≡ runOk from to wire clock starts times brought l
+  unfolding runOk
+  run-off h = rw h
+
+  pub run-on : {r : Bool} → sameStep from to starts l ≡ true → r ≡ leb (carried from wire times brought l + cell times (cell to l)) clock
+      → r ≡ runOk from to wire clock starts times brought l
+  unfolding runOk
+  run-on h e = e ∙ sym (rw h)

@@ -1,11 +1,12 @@
 -- Laws of the judge's answer.
 use Prim.Native.Nat.{ℕ, zero, suc}
 use mathlib.Core.Path.{_≡_, refl, sym, ap, _∙_}
+use mathlib.Core.Bool.{Bool}
 use mathlib.Core.List.{List}
 use borrow.Author.Tests.{eqb-true}
 use lib.Dec.{eqb, lit<}
-use Rattle.basics.specs.Counting.{sumTo}
-use Rattle.basics.specs.Numbers.{countsDiffer, paperPlan}
+use Rattle.basics.specs.Faults.{_orElse_, faultUnless}
+use Rattle.basics.specs.Numbers.{countsDiffer, orderBroken, paperPlan}
 use Rattle.basics.proofs.CountLaws.{and-both}
 use Rattle.basics.proofs.FaultLaws.{orElse-none, unless-none}
 use Rattle.sheets.specs.JobSheet.{readJob}
@@ -15,9 +16,11 @@ use Rattle.sheets.specs.declared.JobRead.{JobRead}
 use Rattle.sheets.specs.declared.PlanRead.{PlanRead}
 use Rattle.sheets.specs.declared.Reading.the-variants.{Read, Refused as Unread}
 use Rattle.sheets.specs.declared.Plan.{Plan}
-use Rattle.rules.specs.Model.{instCount}
-use Rattle.rules.specs.Selection.{selected, costAt, selectionCost}
-use Rattle.rules.specs.Judge.{countsFault, judgeFault, passOr, judged, ifRead, judge}
+use Rattle.rules.specs.Model.{instCount, typesOf, timingIn}
+use Rattle.rules.specs.Selection.{selected, orderOk, selectionCost}
+use Rattle.rules.specs.Rules.{rowsFault}
+use Rattle.rules.specs.Judge.{countsFault, placingFault, judgeFault, planCost, passOr, judged, ifRead, judge}
+use Rattle.rules.specs.declared.Timing.{Timing}
 use Rattle.rules.specs.declared.Judged.{Judged}
 use Rattle.rules.specs.declared.Judged.the-variants.{Passed, Refused}
 
@@ -27,15 +30,26 @@ counts-agree j p h =
     let a = and-both (eqb (p .n) (j .n)) (eqb (p .k) (instCount j)) (unless-none _ countsDiffer (lit< tt) (orElse-none _ _ h .0)) in
     (eqb-true _ _ (a .0), eqb-true _ _ (a .1))
 
+-- the tests of a job and a plan, one by one
+pub fault-is : (j : Job) (p : Plan) (k : ℕ) (types : List ℕ) (timing : Timing) (counts ordered rows placing fault : ℕ) (order : Bool)
+    → k ≡ instCount j → types ≡ typesOf j → timing ≡ timingIn types (j .clock) (j .kinds) (j .times) (j .intervals) (p .insts)
+    → counts ≡ countsFault (p .n) (p .k) (j .n) k → order ≡ orderOk types (p .selection) k
+    → rows ≡ rowsFault (j .n) k (j .t) (p .starts) (p .insts) (timing .times) (timing .delays) (p .selection)
+    → placing ≡ placingFault (j .n) (j .e) (j .wire) (j .clock) (j .from) (j .to) (p .starts) (p .insts) timing
+    → ordered ≡ faultUnless order orderBroken → fault ≡ counts orElse (ordered orElse (rows orElse placing)) → fault ≡ judgeFault j p
+unfolding judgeFault
+fault-is j p k types timing counts ordered rows placing fault order ek et em ec eo er ep ef e =
+    e ∙ rw (ef, ec, eo, er, ep, em, et, ek)
+
 pub judged-refused : (j : Job) (p : Plan) (k : ℕ) → k ≡ judgeFault j p → (k ≡ 0 → ⊥) → Refused k paperPlan ≡ judged j p
 unfolding judged passOr
 judged-refused j p zero e h = absurd (h refl)
 judged-refused j p (suc k) e h = rw (← e)
 
-pub judged-passed : (j : Job) (p : Plan) (cost : ℕ) → judgeFault j p ≡ 0 → cost ≡ sumTo (costAt (j .costs) (j .copies) (j .m) (selected (p .selection))) (p .k)
+pub judged-passed : (j : Job) (p : Plan) (cost : ℕ) → judgeFault j p ≡ 0 → cost ≡ selectionCost (j .costs) (typesOf j) (selected (p .selection)) (p .k)
     → Passed cost ≡ judged j p
-unfolding judged passOr selectionCost
-judged-passed j p cost z e = rw (z) (ap (λ (c : ℕ). Passed c) (e ∙ ap (sumTo (costAt (j .costs) (j .copies) (j .m) (selected (p .selection)))) (counts-agree j p z .1)))
+unfolding judged passOr planCost
+judged-passed j p cost z e = rw (z) (ap (λ (c : ℕ). Passed c) (e ∙ ap (selectionCost (j .costs) (typesOf j) (selected (p .selection))) (counts-agree j p z .1)))
 
 -- ---- a paper that cannot be read ends the question there
 

@@ -2,3 +2,4 @@ pub mod ModelLaws
 pub mod SelectionLaws
 pub mod ChainLaws
 pub mod JudgeLaws
+pub mod ResourceLaws

@@ -9,16 +9,20 @@ use lib.Dec.{leb}
 use lib.ListN.{length, List·getD-eq-default}
 use Rattle.basics.specs.Counting.{sumTo, only}
 use Rattle.basics.specs.Tables.{cell, cells}
-use Rattle.basics.proofs.TableLaws.{cell-cells, cell-unused, cells-cong}
+use Rattle.basics.proofs.TableLaws.{length-cells, cell-cells, cell-unused, cells-cong}
 use Rattle.sheets.specs.Limits.{instCells, opCells, kindCount, pairCells}
 use Rattle.sheets.specs.declared.Job.{Job}
-use Rattle.rules.specs.Model.{behind, typeIn, spanOf, spanAt, timeOf, intervalOf, roundedUp, stepsAt, rowAt, rowTable, timingOf, unitCells, unitAt, unitTable, tablesOf}
+use Rattle.rules.specs.Model.{behind, typeAt, typesIn, typesOf, spanOf, roundedUp, stepsAt, rowAt, rowTable, timingIn, unitCells, unitAt, unitTable, tablesOf}
 use Rattle.rules.specs.declared.Tables.{Tables}
 use Rattle.rules.specs.declared.Timing.{Timing}
 
 pub behind-is : (copies : List ℕ) (i y : ℕ) → behind copies i y ≡ only (leb (sumTo (cell copies) y + cell copies y) i) 1
 unfolding behind sumTo
 behind-is copies i y = refl
+
+pub types-counted : (types copies : List ℕ) (m : ℕ) → types ≡ typesIn copies m → instCells ≡ length types
+unfolding typesIn
+types-counted types copies m e = sym (ap length e ∙ length-cells (typeAt copies m) instCells instCells)
 
 -- ---- a quotient rounded up
 
@@ -51,33 +55,31 @@ steps-cell spans clock n e c =
 
 -- ---- what is made of a job
 
-pub timing-is : (j : Job) (insts times delays intervals spacings : List ℕ)
-    → times ≡ rowTable (timeOf j) insts → intervals ≡ rowTable (intervalOf j) insts
-    → delays ≡ cells (stepsAt times (j .clock)) opCells opCells → spacings ≡ cells (stepsAt intervals (j .clock)) opCells opCells
-    → _≡_ {A = Timing} (record { times = times; delays = delays; spacings = spacings }) (timingOf j insts)
-unfolding timingOf
-timing-is j insts times delays intervals spacings a b d s =
-    let d' = d ∙ ap (λ (t : List ℕ). cells (stepsAt t (j .clock)) opCells opCells) a ∙ steps-table (rowAt (timeOf j) insts) (j .clock) opCells _ (λ c. refl) in
-    let s' = s ∙ ap (λ (t : List ℕ). cells (stepsAt t (j .clock)) opCells opCells) b ∙ steps-table (rowAt (intervalOf j) insts) (j .clock) opCells _ (λ c. refl) in
+pub timing-is : (types : List ℕ) (clock : ℕ) (kinds times intervals insts : List ℕ) (rowTimes rowIntervals delays spacings : List ℕ)
+    → rowTimes ≡ rowTable (spanOf types kinds times) insts → rowIntervals ≡ rowTable (spanOf types kinds intervals) insts
+    → delays ≡ cells (stepsAt rowTimes clock) opCells opCells → spacings ≡ cells (stepsAt rowIntervals clock) opCells opCells
+    → _≡_ {A = Timing} (record { times = rowTimes; delays = delays; spacings = spacings }) (timingIn types clock kinds times intervals insts)
+unfolding timingIn
+timing-is types clock kinds times intervals insts rowTimes rowIntervals delays spacings a b d s =
+    let d' = d ∙ ap (λ (t : List ℕ). cells (stepsAt t clock) opCells opCells) a ∙ steps-table (rowAt (spanOf types kinds times) insts) clock opCells _ (λ c. refl) in
+    let s' = s ∙ ap (λ (t : List ℕ). cells (stepsAt t clock) opCells opCells) b ∙ steps-table (rowAt (spanOf types kinds intervals) insts) clock opCells _ (λ c. refl) in
     λ i. record { times = a i; delays = d' i; spacings = s' i }
 
--- a table over types that stand in a table
-unit-table : (j : Job) (pairs : List ℕ) (f : ℕ → ℕ → ℕ) → ((o i : ℕ) → cell pairs (kindCount * typeIn (j .copies) (j .m) i + cell (j .kinds) o) ≡ f o i)
-    → unitTable (spanAt (cells (typeIn (j .copies) (j .m)) instCells instCells) (j .kinds) pairs) ≡ unitTable f
-unit-table j pairs f h =
-    cells-cong _ (unitAt f) unitCells unitCells (λ c l.
-    ap (λ (y : ℕ). cell pairs (kindCount * y + cell (j .kinds) (c / instCells))) (cell-cells (typeIn (j .copies) (j .m)) instCells instCells (c % instCells) (omega arith) (omega arith))
-    ∙ h (c / instCells) (c % instCells))
+-- a table of spans in steps, over spans in steps
+unit-steps : (types kinds pairs : List ℕ) (clock : ℕ) (f : ℕ → ℕ → ℕ) → length pairs ≡ pairCells → ((o i : ℕ) → f o i ≡ roundedUp (spanOf types kinds pairs o i) clock)
+    → unitTable (spanOf types kinds (cells (stepsAt pairs clock) pairCells pairCells)) ≡ unitTable f
+unit-steps types kinds pairs clock f e h =
+    cells-cong _ (unitAt f) unitCells unitCells (λ c l. steps-cell pairs clock pairCells e _ ∙ sym (h (c / instCells) (c % instCells)))
 
 pub tables-are : (j : Job) (types delays spacings times' delays' spacings' : List ℕ)
     → length (j .times) ≡ pairCells → length (j .intervals) ≡ pairCells
-    → types ≡ cells (typeIn (j .copies) (j .m)) instCells instCells
+    → types ≡ typesOf j
     → delays ≡ cells (stepsAt (j .times) (j .clock)) pairCells pairCells → spacings ≡ cells (stepsAt (j .intervals) (j .clock)) pairCells pairCells
-    → times' ≡ unitTable (spanAt types (j .kinds) (j .times)) → delays' ≡ unitTable (spanAt types (j .kinds) delays) → spacings' ≡ unitTable (spanAt types (j .kinds) spacings)
+    → times' ≡ unitTable (spanOf types (j .kinds) (j .times)) → delays' ≡ unitTable (spanOf types (j .kinds) delays) → spacings' ≡ unitTable (spanOf types (j .kinds) spacings)
     → _≡_ {A = Tables} (record { times = times'; delays = delays'; spacings = spacings' }) (tablesOf j)
 unfolding tablesOf
 tables-are j types delays spacings times' delays' spacings' lt li t d s et ed es =
-    let t' = rw t at et ∙ unit-table j (j .times) _ (λ o i. refl) in
-    let d' = rw (t, d) at ed ∙ unit-table j (cells (stepsAt (j .times) (j .clock)) pairCells pairCells) _ (λ o i. steps-cell (j .times) (j .clock) pairCells lt _) in
-    let s' = rw (t, s) at es ∙ unit-table j (cells (stepsAt (j .intervals) (j .clock)) pairCells pairCells) _ (λ o i. steps-cell (j .intervals) (j .clock) pairCells li _) in
+    let t' = rw t at et in
+    let d' = (rw (t, d) at ed) ∙ unit-steps (typesOf j) (j .kinds) (j .times) (j .clock) _ lt (λ o i. refl) in
+    let s' = (rw (t, s) at es) ∙ unit-steps (typesOf j) (j .kinds) (j .intervals) (j .clock) _ li (λ o i. refl) in
     λ i. record { times = t' i; delays = d' i; spacings = s' i }

@@ -13,28 +13,36 @@ use Rattle.sheets.specs.declared.Job.{Job}
 use Rattle.sheets.specs.declared.Plan.{Plan}
 use Rattle.sheets.specs.declared.Reading.{Reading}
 use Rattle.sheets.specs.declared.Reading.the-variants.{Read, Refused as Unread}
-use Rattle.rules.specs.Model.{instCount}
+use Rattle.rules.specs.Model.{instCount, typesOf, timingOf}
 use Rattle.rules.specs.Selection.{selected, orderOk, selectionCost}
 use Rattle.rules.specs.Rules.{rowsFault, precedenceOk, resourceOk, chainsOk}
+use Rattle.rules.specs.declared.Timing.{Timing}
 use Rattle.rules.specs.declared.Judged.{Judged}
 use Rattle.rules.specs.declared.Judged.the-variants.{Passed, Refused}
 
 -- ---- the first rule that a plan breaks, 0 where it breaks none
 
-unfoldable pub countsFault : Job → Plan → ℕ
-countsFault j p = faultUnless (eqb (p .n) (j .n) && eqb (p .k) (instCount j)) countsDiffer
+-- a plan of so many operations and instances, for a job of n and k
+unfoldable pub countsFault : ℕ → ℕ → ℕ → ℕ → ℕ
+countsFault ops insts n k = faultUnless (eqb ops n && eqb insts k) countsDiffer
+
+-- of precedence, resource and chain, among the operations placed
+unfoldable pub placingFault : ℕ → ℕ → ℕ → ℕ → List ℕ → List ℕ → List ℕ → List ℕ → Timing → ℕ
+placingFault n e wire clock from to starts insts timing =
+    faultUnless (precedenceOk from to e starts (timing .delays)) precedenceBroken orElse
+    faultUnless (resourceOk n starts insts (timing .spacings)) resourceBroken orElse
+    faultUnless (chainsOk from to e wire clock starts (timing .times)) chainBroken
 
 unfoldable pub judgeFault : Job → Plan → ℕ
 judgeFault j p =
-    countsFault j p orElse
-    faultUnless (orderOk j (p .selection)) orderBroken orElse
-    rowsFault j (p .starts) (p .insts) (p .selection) orElse
-    faultUnless (precedenceOk j (p .starts) (p .insts)) precedenceBroken orElse
-    faultUnless (resourceOk j (p .starts) (p .insts)) resourceBroken orElse
-    faultUnless (chainsOk j (p .starts) (p .insts)) chainBroken
+    let timing = timingOf j (p .insts) in
+    countsFault (p .n) (p .k) (j .n) (instCount j) orElse
+    faultUnless (orderOk (typesOf j) (p .selection) (instCount j)) orderBroken orElse
+    rowsFault (j .n) (instCount j) (j .t) (p .starts) (p .insts) (timing .times) (timing .delays) (p .selection) orElse
+    placingFault (j .n) (j .e) (j .wire) (j .clock) (j .from) (j .to) (p .starts) (p .insts) timing
 
-abbrev pub planCost : Job → Plan → ℕ
-planCost j p = selectionCost j (selected (p .selection))
+unfoldable pub planCost : Job → Plan → ℕ
+planCost j p = selectionCost (j .costs) (typesOf j) (selected (p .selection)) (instCount j)
 
 -- ---- the judge
 

@@ -1,5 +1,5 @@
--- What a job says of its instances, which are numbered type by type: `instCount` is K and `typeOf` an instance's type;
--- `timeOf`, `delayOf` and `spacingOf` are an operation's on an instance, `timingOf` has those of a plan's rows, `tablesOf` all.
+-- What a job says of its instances, which are numbered type by type: `instCount` is K, `typesOf` their types; `timeOf`,
+-- `delayOf` and `spacingOf` are an operation's on an instance, `timingOf` has those of a plan's rows, `tablesOf` all of them.
 use Prim.Native.Nat.{ℕ, suc, _+_, _-_, _*_, _/_, _%_}
 use mathlib.Core.List.{List}
 use lib.Dec.{leb}
@@ -20,28 +20,31 @@ unfoldable pub behind : List ℕ → ℕ → ℕ → ℕ
 behind copies i y = only (leb (sumTo (cell copies) (suc y)) i) 1
 
 -- the type of instance i, where there are m types: how many of them it is behind
-unfoldable pub typeIn : List ℕ → ℕ → ℕ → ℕ
-typeIn copies m i = sumTo (behind copies i) m
+unfoldable pub typeAt : List ℕ → ℕ → ℕ → ℕ
+typeAt copies m i = sumTo (behind copies i) m
+
+-- the types of all instances
+unfoldable pub typesIn : List ℕ → ℕ → List ℕ
+typesIn copies m = cells (typeAt copies m) instCells instCells
+
+abbrev pub typesOf : Job → List ℕ
+typesOf j = typesIn (j .copies) (j .m)
 
 abbrev pub typeOf : Job → ℕ → ℕ
-typeOf j i = typeIn (j .copies) (j .m) i
+typeOf j i = cell (typesOf j) i
 
 -- ---- what operation o takes on instance i
 
 -- out of `pairs`, the times or the intervals of each kind at each type
-abbrev pub spanOf : List ℕ → ℕ → List ℕ → List ℕ → ℕ → ℕ → ℕ
-spanOf copies m kinds pairs o i = cell pairs (kindCount * typeIn copies m i + cell kinds o)
-
--- the same, where the types of instances stand in a table
-abbrev pub spanAt : List ℕ → List ℕ → List ℕ → ℕ → ℕ → ℕ
-spanAt types kinds pairs o i = cell pairs (kindCount * cell types i + cell kinds o)
+abbrev pub spanOf : List ℕ → List ℕ → List ℕ → ℕ → ℕ → ℕ
+spanOf types kinds pairs o i = cell pairs (kindCount * cell types i + cell kinds o)
 
 -- its time in ns, 0 where the instance cannot do it
 abbrev pub timeOf : Job → ℕ → ℕ → ℕ
-timeOf j o i = spanOf (j .copies) (j .m) (j .kinds) (j .times) o i
+timeOf j o i = spanOf (typesOf j) (j .kinds) (j .times) o i
 
 abbrev pub intervalOf : Job → ℕ → ℕ → ℕ
-intervalOf j o i = spanOf (j .copies) (j .m) (j .kinds) (j .intervals) o i
+intervalOf j o i = spanOf (typesOf j) (j .kinds) (j .intervals) o i
 
 -- a / b, rounded up
 unfoldable pub roundedUp : ℕ → ℕ → ℕ
@@ -67,9 +70,20 @@ rowAt of insts o = of o (cell insts o)
 abbrev pub rowTable : (ℕ → ℕ → ℕ) → List ℕ → List ℕ
 rowTable of insts = cells (rowAt of insts) opCells opCells
 
-unfoldable pub timingOf : Job → List ℕ → Timing
-timingOf j insts =
-    record { times = rowTable (timeOf j) insts; delays = rowTable (delayOf j) insts; spacings = rowTable (spacingOf j) insts }
+-- a span in steps
+abbrev pub stepsOf : ℕ → (ℕ → ℕ → ℕ) → ℕ → ℕ → ℕ
+stepsOf clock of o i = roundedUp (of o i) clock
+
+unfoldable pub timingIn : List ℕ → ℕ → List ℕ → List ℕ → List ℕ → List ℕ → Timing
+timingIn types clock kinds times intervals insts =
+    record {
+      times = rowTable (spanOf types kinds times) insts;
+      delays = rowTable (stepsOf clock (spanOf types kinds times)) insts;
+      spacings = rowTable (stepsOf clock (spanOf types kinds intervals)) insts;
+    }
+
+abbrev pub timingOf : Job → List ℕ → Timing
+timingOf j insts = timingIn (typesOf j) (j .clock) (j .kinds) (j .times) (j .intervals) insts
 
 -- ---- the same for every operation on every instance: operation o on instance i has cell instCells * o + i
 

@@ -1,5 +1,6 @@
 -- The rules on rows, precedence, resource and chain, each among the operations that are placed: `starts` and `insts` hold
--- each operation's start and instance, and start 0 is not placed. Judge, walk and notes share them.
+-- each operation's start and instance, start 0 is not placed, and `times`, `delays` and `spacings` are what each takes on its
+-- instance. Judge, walk and notes share them.
 use Prim.Native.Nat.{ℕ, zero, suc, _+_, _*_, _≤_, max}
 use mathlib.Core.Bool.{Bool, true, false, not, _||_, _&&_}
 use mathlib.Core.List.{List}
@@ -10,8 +11,6 @@ use Rattle.basics.specs.Faults.{_orElse_, faultUnless, first}
 use Rattle.basics.specs.Numbers.{rowInstance, rowKind, rowUnselected, rowStep}
 use Rattle.basics.specs.Tables.{cell}
 use Rattle.sheets.specs.Limits.{opCells}
-use Rattle.sheets.specs.declared.Job.{Job}
-use Rattle.rules.specs.Model.{instCount, timeOf, delayOf, spacingOf, rowTable}
 use Rattle.rules.specs.Selection.{selected}
 
 -- ---- row: instance below K, able to do the kind, selected; start at least 1, start + delay - 1 at most T
@@ -28,6 +27,10 @@ rowFault k t inst time chosen start delay =
 unfoldable pub rowFaultAt : ℕ → ℕ → List ℕ → List ℕ → List ℕ → List ℕ → List ℕ → ℕ → ℕ
 rowFaultAt k t starts insts times delays selection o =
     rowFault k t (cell insts o) (cell times o) (selected selection (cell insts o)) (cell starts o) (cell delays o)
+
+-- n rows
+unfoldable pub rowsFault : ℕ → ℕ → ℕ → List ℕ → List ℕ → List ℕ → List ℕ → List ℕ → ℕ
+rowsFault n k t starts insts times delays selection = first (rowFaultAt k t starts insts times delays selection) n
 
 -- ---- both ends of a link are placed
 
@@ -47,6 +50,9 @@ linkOk from to starts delays l =
     not (joins from to starts l)
     || precedes (cell starts (cell from l)) (cell delays (cell from l)) (cell starts (cell to l)) (cell delays (cell to l))
 
+unfoldable pub precedenceOk : List ℕ → List ℕ → ℕ → List ℕ → List ℕ → Bool
+precedenceOk from to e starts delays = allTo (linkOk from to starts delays) e
+
 -- ---- resource: two operations on one instance start apart, by at least the spacing of the later
 
 abbrev pub apart : ℕ → ℕ → ℕ → Bool
@@ -54,13 +60,17 @@ apart start later spacing = ltb start later && leb (start + spacing) later
 
 unfoldable pub shareOk : List ℕ → List ℕ → List ℕ → ℕ → ℕ → Bool
 shareOk starts insts spacings b a =
-    not (placed starts a && placed starts b && eqb (cell insts a) (cell insts b))
+    not (eqb (cell insts a) (cell insts b))
+    || not (placed starts a && placed starts b)
     || apart (cell starts a) (cell starts b) (cell spacings b)
     || apart (cell starts b) (cell starts a) (cell spacings a)
 
 -- operation b with each before it
 unfoldable pub besideOk : List ℕ → List ℕ → List ℕ → ℕ → Bool
 besideOk starts insts spacings b = allTo (shareOk starts insts spacings b) b
+
+unfoldable pub resourceOk : ℕ → List ℕ → List ℕ → List ℕ → Bool
+resourceOk n starts insts spacings = allTo (besideOk starts insts spacings) n
 
 -- ---- chain: the times of a run within a step, with one wire a link, total at most the clock
 
@@ -96,21 +106,9 @@ runOk from to wire clock starts times brought l =
 abbrev pub runOkAt : List ℕ → List ℕ → ℕ → ℕ → List ℕ → List ℕ → ℕ → Bool
 runOkAt from to wire clock starts times l = runOk from to wire clock starts times (broughtBy from to wire starts times l) l
 
+unfoldable pub chainsOk : List ℕ → List ℕ → ℕ → ℕ → ℕ → List ℕ → List ℕ → Bool
+chainsOk from to e wire clock starts times = allTo (runOkAt from to wire clock starts times) e
+
 -- (a bound on what l links can bring, that sums of it fit)
 abbrev pub Bounded : List ℕ → ℕ → Type 0
 Bounded brought l = (o : ℕ) → cell brought o ≤ 131072 * l
-
--- ---- of a job
-
-unfoldable pub rowsFault : Job → List ℕ → List ℕ → List ℕ → ℕ
-rowsFault j starts insts selection =
-    first (rowFaultAt (instCount j) (j .t) starts insts (rowTable (timeOf j) insts) (rowTable (delayOf j) insts) selection) (j .n)
-
-unfoldable pub precedenceOk : Job → List ℕ → List ℕ → Bool
-precedenceOk j starts insts = allTo (linkOk (j .from) (j .to) starts (rowTable (delayOf j) insts)) (j .e)
-
-unfoldable pub resourceOk : Job → List ℕ → List ℕ → Bool
-resourceOk j starts insts = allTo (besideOk starts insts (rowTable (spacingOf j) insts)) (j .n)
-
-unfoldable pub chainsOk : Job → List ℕ → List ℕ → Bool
-chainsOk j starts insts = allTo (runOkAt (j .from) (j .to) (j .wire) (j .clock) starts (rowTable (timeOf j) insts)) (j .e)

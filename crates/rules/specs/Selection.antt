@@ -5,8 +5,6 @@ use mathlib.Core.List.{List}
 use lib.Dec.{eqb}
 use Rattle.basics.specs.Counting.{allTo, sumTo, only}
 use Rattle.basics.specs.Tables.{cell}
-use Rattle.sheets.specs.declared.Job.{Job}
-use Rattle.rules.specs.Model.{instCount, typeIn}
 
 abbrev pub selected : List ℕ → ℕ → Bool
 selected selection i = eqb (cell selection i) 1
@@ -14,19 +12,20 @@ selected selection i = eqb (cell selection i) 1
 -- ---- selection order: within a type no selected instance precedes an unselected one
 
 -- instance i and the one before it
-unfoldable pub orderAt : List ℕ → ℕ → List ℕ → ℕ → Bool
-orderAt copies m selection zero = true
-orderAt copies m selection (suc i) =
-    not (eqb (typeIn copies m i) (typeIn copies m (suc i))) || not (selected selection i) || selected selection (suc i)
+unfoldable pub orderAt : List ℕ → List ℕ → ℕ → Bool
+orderAt types selection zero = true
+orderAt types selection (suc i) =
+    not (eqb (cell types i) (cell types (suc i))) || not (selected selection i) || selected selection (suc i)
 
-unfoldable pub orderOk : Job → List ℕ → Bool
-orderOk j selection = allTo (orderAt (j .copies) (j .m) selection) (instCount j)
+-- k instances
+unfoldable pub orderOk : List ℕ → List ℕ → ℕ → Bool
+orderOk types selection k = allTo (orderAt types selection) k
 
 -- ---- cost: the sum of costs of selected instances
 
 -- what instance i adds to it
-unfoldable pub costAt : List ℕ → List ℕ → ℕ → (ℕ → Bool) → ℕ → ℕ
-costAt costs copies m chosen i = only (chosen i) (cell costs (typeIn copies m i))
+unfoldable pub costAt : List ℕ → List ℕ → (ℕ → Bool) → ℕ → ℕ
+costAt costs types chosen i = only (chosen i) (cell costs (cell types i))
 
-unfoldable pub selectionCost : Job → (ℕ → Bool) → ℕ
-selectionCost j chosen = sumTo (costAt (j .costs) (j .copies) (j .m) chosen) (instCount j)
+unfoldable pub selectionCost : List ℕ → List ℕ → (ℕ → Bool) → ℕ → ℕ
+selectionCost costs types chosen k = sumTo (costAt costs types chosen) k

@@ -1,9 +1,8 @@
 // The rule on runs within a step.
 ghost use mathlib.Core.Path.{_≡_};
 ghost use Prim.Native.Nat.{_+_, _*_, _^_, _<_, _≤_};
-ghost use Rattle.basics.specs.Counting.{allTo};
 ghost use Rattle.basics.specs.Tables.{cell as cellOf};
-ghost use Rattle.rules.specs.Rules.{sameStep, carried as carriedBy, raised, brings, Bounded, runOk, runOkAt};
+ghost use Rattle.rules.specs.Rules.{sameStep, carried as carriedBy, raised, brings, Bounded, runOk, chainsOk};
 use crate::precedence::joins;
 use basics::cell;
 use sheets::limits::OP_CELLS;
@@ -39,25 +38,6 @@ fn carried<'a>(
     brought_to(brought, a) + cell(times, a) as usize + wire as usize
 }
 
-// The longest run that ends with link l is within the clock.
-fn run_ok<'a>(
-    from: &'a [u16],
-    to: &'a [u16],
-    wire: u16,
-    clock: u16,
-    starts: &'a [u16],
-    times: &'a [u16],
-    brought: &'a [usize],
-    l: usize,
-) -> bool
-    requires { ⌜ (l < 2 ^ 16) × Bounded (now brought) l ⌝ }
-    ensures { λ r. ⌜ r ≡ runOk (now (from .entry)) (now (to .entry)) wire clock (now (starts .entry)) (now (times .entry)) (now (brought .entry)) l ⌝ }
-{
-    let b = cell(to, l) as usize;
-    let total = carried(from, wire, times, brought, l) + cell(times, b) as usize;
-    !same_step(from, to, starts, l) | (total <= clock as usize)
-}
-
 // Cell b is raised to x, where it holds less.
 fn raise(table: &mut [usize], b: usize, x: usize)
     ensures { λ _. ⌜ now (table .exit) ≡ raised (now (table .entry)) b x ⌝ }
@@ -69,28 +49,34 @@ fn raise(table: &mut [usize], b: usize, x: usize)
     }
 }
 
-// Link l brings what it carries to its second operation, where it joins two placed in one step.
-fn bring<'a>(
+// Link l, where it joins two operations placed in one step, brings what it carries to the second; tells whether the
+// longest run that ends with it is within the clock.
+fn run_ok<'a>(
     from: &'a [u16],
     to: &'a [u16],
     wire: u16,
+    clock: u16,
     starts: &'a [u16],
     times: &'a [u16],
     l: usize,
     brought: &mut [usize],
-)
+) -> bool
     requires { ⌜ (l < 2 ^ 16) × Bounded (now brought) l ⌝ }
-    ensures { λ _. ⌜ (now (brought .exit) ≡ brings (now (from .entry)) (now (to .entry)) wire (now (starts .entry)) (now (times .entry)) (now (brought .entry)) l) × Bounded (now (brought .exit)) (l + 1) ⌝ }
+    ensures kept { λ r. ⌜ r ≡ runOk (now (from .entry)) (now (to .entry)) wire clock (now (starts .entry)) (now (times .entry)) (now (brought .entry)) l ⌝ }
+    ensures brings { λ _. ⌜ (now (brought .exit) ≡ brings (now (from .entry)) (now (to .entry)) wire (now (starts .entry)) (now (times .entry)) (now (brought .entry)) l) × Bounded (now (brought .exit)) (l + 1) ⌝ }
 {
-    if same_step(from, to, starts, l) {
-        let x = carried(from, wire, times, brought, l);
-        raise(brought, cell(to, l) as usize, x);
+    if !same_step(from, to, starts, l) {
+        return true;
     }
+    let x = carried(from, wire, times, brought, l);
+    let b = cell(to, l) as usize;
+    raise(brought, b, x);
+    x + cell(times, b) as usize <= clock as usize
 }
 
 // Every run over the first e links within a step is within the clock. Links ascend by their first operation, so all that
 // comes to it has been brought before it carries on.
-pub fn runs_ok<'a>(
+pub fn chains_ok<'a>(
     from: &'a [u16],
     to: &'a [u16],
     e: u16,
@@ -99,15 +85,14 @@ pub fn runs_ok<'a>(
     starts: &'a [u16],
     times: &'a [u16],
 ) -> bool
-    ensures { λ r. ⌜ r ≡ allTo (runOkAt (now (from .entry)) (now (to .entry)) wire clock (now (starts .entry)) (now (times .entry))) e ⌝ }
+    ensures { λ r. ⌜ r ≡ chainsOk (now (from .entry)) (now (to .entry)) e wire clock (now (starts .entry)) (now (times .entry)) ⌝ }
 {
     let links = e as usize;
     let mut brought = [0usize; OP_CELLS];
     let mut ok = true;
     let mut l: usize = 0;
     while l < links {
-        ok = ok & run_ok(from, to, wire, clock, starts, times, &brought, l);
-        bring(from, to, wire, starts, times, l, &mut brought);
+        ok = ok & run_ok(from, to, wire, clock, starts, times, l, &mut brought);
         l += 1;
     }
     ok

@@ -1,13 +1,15 @@
 // The judge: a plan passes exactly when it meets every rule.
 ghost use mathlib.Core.Path.{_≡_};
-ghost use Rattle.rules.specs.Judge.{countsFault, judgeFault, judged as judgedBy, ifRead, judge as judgeOf, judgedSays as saysOf};
+ghost use Rattle.rules.specs.Judge.{countsFault, placingFault, judged as judgedBy, ifRead, judge as judgeOf, judgedSays as saysOf};
 ghost use Rattle.rules.specs.declared.Judged.the-variants.{Refused};
 use crate::Judged;
-use crate::chains::runs_ok;
+use crate::Timing;
+use crate::chains::chains_ok;
 use crate::model::inst_count;
 use crate::model::timing_of;
-use crate::precedence::links_ok;
-use crate::resource::shares_ok;
+use crate::model::types_of;
+use crate::precedence::precedence_ok;
+use crate::resource::resource_ok;
 use crate::rows::rows_fault;
 use crate::selection::order_ok;
 use crate::selection::selection_cost;
@@ -20,24 +22,55 @@ use sheets::Reading;
 use sheets::jobs::read_job;
 use sheets::plans::read_plan;
 
-// The plan's N or K differs from the job's.
-fn counts_fault(job: Job, plan: Plan) -> u32
-    ensures { λ r. ⌜ r ≡ countsFault job plan ⌝ }
+// A plan of so many operations and instances, for a job of n and k.
+fn counts_fault(ops: u16, insts: u16, n: u16, k: usize) -> u32
+    ensures { λ r. ⌜ r ≡ countsFault ops insts n k ⌝ }
 {
-    let k = inst_count(&job.copies, job.m);
-    fault_unless(
-        (plan.n == job.n) & (plan.k as usize == k),
-        basics::COUNTS_DIFFER,
+    fault_unless((ops == n) & (insts as usize == k), basics::COUNTS_DIFFER)
+}
+
+// The first of precedence, resource and chain that the operations placed break.
+pub fn placing_fault<'a>(
+    n: u16,
+    e: u16,
+    wire: u16,
+    clock: u16,
+    from: &'a [u16],
+    to: &'a [u16],
+    starts: &'a [u16],
+    insts: &'a [u16],
+    timing: Timing,
+) -> u32
+    ensures { λ r. ⌜ r ≡ placingFault n e wire clock (now (from .entry)) (now (to .entry)) (now (starts .entry)) (now (insts .entry)) timing ⌝ }
+{
+    let precedence = precedence_ok(from, to, e, starts, &timing.delays);
+    let resource = resource_ok(n, starts, insts, &timing.spacings);
+    let chains = chains_ok(from, to, e, wire, clock, starts, &timing.times);
+    or_else(
+        fault_unless(precedence, basics::PRECEDENCE_BROKEN),
+        or_else(
+            fault_unless(resource, basics::RESOURCE_BROKEN),
+            fault_unless(chains, basics::CHAIN_BROKEN),
+        ),
     )
 }
 
-// The first rule that the plan breaks; 0 where it breaks none.
-pub fn judge_fault(job: Job, plan: Plan) -> u32
-    ensures { λ r. ⌜ r ≡ judgeFault job plan ⌝ }
+// A plan passes at its cost, or is refused by the first rule that it breaks.
+pub fn judged(job: Job, plan: Plan) -> Judged
+    ensures { λ r. ⌜ r ≡ judgedBy job plan ⌝ }
 {
     let k = inst_count(&job.copies, job.m);
-    let timing = timing_of(job, &plan.insts);
-    let order_kept = order_ok(&job.copies, job.m, &plan.selection, k);
+    let types = types_of(&job.copies, job.m);
+    let timing = timing_of(
+        &types,
+        job.clock,
+        &job.kinds,
+        &job.times,
+        &job.intervals,
+        &plan.insts,
+    );
+    let counts = counts_fault(plan.n, plan.k, job.n, k);
+    let order = order_ok(&types, &plan.selection, k);
     let rows = rows_fault(
         job.n,
         k,
@@ -48,47 +81,26 @@ pub fn judge_fault(job: Job, plan: Plan) -> u32
         &timing.delays,
         &plan.selection,
     );
-    let precedence_kept = links_ok(&job.from, &job.to, job.e, &plan.starts, &timing.delays);
-    let resource_kept = shares_ok(&plan.starts, &plan.insts, &timing.spacings, job.n);
-    let chains_kept = runs_ok(
-        &job.from,
-        &job.to,
+    let placing = placing_fault(
+        job.n,
         job.e,
         job.wire,
         job.clock,
+        &job.from,
+        &job.to,
         &plan.starts,
-        &timing.times,
+        &plan.insts,
+        timing,
     );
-    or_else(
-        counts_fault(job, plan),
-        or_else(
-            fault_unless(order_kept, basics::ORDER_BROKEN),
-            or_else(
-                rows,
-                or_else(
-                    fault_unless(precedence_kept, basics::PRECEDENCE_BROKEN),
-                    or_else(
-                        fault_unless(resource_kept, basics::RESOURCE_BROKEN),
-                        fault_unless(chains_kept, basics::CHAIN_BROKEN),
-                    ),
-                ),
-            ),
-        ),
-    )
-}
-
-// A plan passes at its cost, or is refused by the first rule that it breaks.
-pub fn judged(job: Job, plan: Plan) -> Judged
-    ensures { λ r. ⌜ r ≡ judgedBy job plan ⌝ }
-{
-    let fault = judge_fault(job, plan);
+    let ordered = fault_unless(order, basics::ORDER_BROKEN);
+    let fault = or_else(counts, or_else(ordered, or_else(rows, placing)));
     if fault != 0 {
         return Judged::Refused {
             number: fault,
             paper: basics::PAPER_PLAN,
         };
     }
-    let cost = selection_cost(&job.costs, &job.copies, job.m, &plan.selection, plan.k);
+    let cost = selection_cost(&job.costs, &types, &plan.selection, plan.k);
     Judged::Passed { cost }
 }
 

@@ -3,9 +3,8 @@ ghost use mathlib.Core.Path.{_≡_};
 ghost use Prim.Native.Nat.{_<_, _^_};
 ghost use lib.ListN.{length};
 ghost use Rattle.basics.specs.Counting.{sumTo};
-ghost use Rattle.basics.specs.Tables.{cell as cellOf, cells, filled};
-ghost use Rattle.sheets.specs.Limits.{instCells};
-ghost use Rattle.rules.specs.Model.{typeIn, roundedUp, stepsAt, spanAt, spanOf, rowTable, unitTable, timingOf, tablesOf};
+ghost use Rattle.basics.specs.Tables.{cell as cellOf, filled};
+ghost use Rattle.rules.specs.Model.{typeAt, typesIn, spanOf, roundedUp, stepsAt, rowTable, timingIn, unitTable, tablesOf};
 use crate::Tables;
 use crate::Timing;
 use basics::cell;
@@ -28,25 +27,25 @@ pub fn inst_count(copies: &[u16], m: u16) -> usize
     sum
 }
 
-// The type of instance i: how many types stand before it.
-pub fn type_of(copies: &[u16], m: u16, i: usize) -> u16
-    ensures { λ r. ⌜ (r ≡ typeIn (now (copies .entry)) m i) × (r < 2 ^ 16) ⌝ }
+// The type of instance i: how many types it is behind.
+fn type_of(copies: &[u16], m: u16, i: usize) -> u16
+    ensures { λ r. ⌜ (r ≡ typeAt (now (copies .entry)) m i) × (r < 2 ^ 16) ⌝ }
 {
     let types = m as usize;
     let mut sum: usize = 0;
-    let mut before: usize = 0;
+    let mut passed: usize = 0;
     let mut y: usize = 0;
     while y < types {
         sum += cell(copies, y) as usize;
-        before += basics::only(sum <= i, 1) as usize;
+        passed += basics::only(sum <= i, 1) as usize;
         y += 1;
     }
-    before as u16
+    passed as u16
 }
 
 // The types of all instances.
-fn types_of(copies: &[u16], m: u16) -> [u16; INST_CELLS]
-    ensures { λ r. ⌜ r ≡ cells (typeIn (now (copies .entry)) m) instCells instCells ⌝ }
+pub fn types_of(copies: &[u16], m: u16) -> [u16; INST_CELLS]
+    ensures { λ r. ⌜ r ≡ typesIn (now (copies .entry)) m ⌝ }
 {
     let mut types = [0u16; INST_CELLS];
     let mut i: usize = 0;
@@ -80,18 +79,17 @@ pub fn in_steps(spans: &[u16], clock: u16, steps: &mut [u16])
 
 // What each operation takes on its instance, out of times or intervals.
 fn row_spans<'a>(
-    copies: &'a [u16],
-    m: u16,
+    types: &'a [u16],
     kinds: &'a [u16],
     pairs: &'a [u16],
     insts: &'a [u16],
 ) -> [u16; OP_CELLS]
-    ensures { λ r. ⌜ r ≡ rowTable (spanOf (now (copies .entry)) m (now (kinds .entry)) (now (pairs .entry))) (now (insts .entry)) ⌝ }
+    ensures { λ r. ⌜ r ≡ rowTable (spanOf (now (types .entry)) (now (kinds .entry)) (now (pairs .entry))) (now (insts .entry)) ⌝ }
 {
     let mut spans = [0u16; OP_CELLS];
     let mut o: usize = 0;
     while o < OP_CELLS {
-        let y = type_of(copies, m, cell(insts, o) as usize);
+        let y = cell(types, cell(insts, o) as usize);
         spans[o] = cell(pairs, KIND_COUNT * (y as usize) + cell(kinds, o) as usize);
         o += 1;
     }
@@ -99,17 +97,24 @@ fn row_spans<'a>(
 }
 
 // What each operation takes on its instance.
-pub fn timing_of(job: Job, insts: &[u16]) -> Timing
-    ensures { λ r. ⌜ r ≡ timingOf job (now (insts .entry)) ⌝ }
+pub fn timing_of<'a>(
+    types: &'a [u16],
+    clock: u16,
+    kinds: &'a [u16],
+    times: &'a [u16],
+    intervals: &'a [u16],
+    insts: &'a [u16],
+) -> Timing
+    ensures { λ r. ⌜ r ≡ timingIn (now (types .entry)) clock (now (kinds .entry)) (now (times .entry)) (now (intervals .entry)) (now (insts .entry)) ⌝ }
 {
-    let times = row_spans(&job.copies, job.m, &job.kinds, &job.times, insts);
-    let intervals = row_spans(&job.copies, job.m, &job.kinds, &job.intervals, insts);
+    let row_times = row_spans(types, kinds, times, insts);
     let mut delays = [0u16; OP_CELLS];
-    in_steps(&times, job.clock, &mut delays);
+    in_steps(&row_times, clock, &mut delays);
+    let row_intervals = row_spans(types, kinds, intervals, insts);
     let mut spacings = [0u16; OP_CELLS];
-    in_steps(&intervals, job.clock, &mut spacings);
+    in_steps(&row_intervals, clock, &mut spacings);
     Timing {
-        times,
+        times: row_times,
         delays,
         spacings,
     }
@@ -117,7 +122,7 @@ pub fn timing_of(job: Job, insts: &[u16]) -> Timing
 
 // What each operation takes on each instance, out of times or intervals, or of their like in steps.
 fn unit_spans<'a>(types: &'a [u16], kinds: &'a [u16], pairs: &'a [u16]) -> [u16; UNIT_CELLS]
-    ensures { λ r. ⌜ r ≡ unitTable (spanAt (now (types .entry)) (now (kinds .entry)) (now (pairs .entry))) ⌝ }
+    ensures { λ r. ⌜ r ≡ unitTable (spanOf (now (types .entry)) (now (kinds .entry)) (now (pairs .entry))) ⌝ }
 {
     let mut spans = [0u16; UNIT_CELLS];
     let mut c: usize = 0;

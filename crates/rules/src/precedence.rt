@@ -1,7 +1,6 @@
 // The rule on links.
 ghost use mathlib.Core.Path.{_≡_};
-ghost use Rattle.basics.specs.Counting.{allTo};
-ghost use Rattle.rules.specs.Rules.{joins as joinsAt, precedes as precedesBy, linkOk};
+ghost use Rattle.rules.specs.Rules.{joins as joinsAt, precedes as precedesBy, linkOk, precedenceOk};
 use basics::cell;
 
 // Both ends of link l are placed.
@@ -44,14 +43,14 @@ fn link_ok<'a>(
 }
 
 // The first e links keep precedence.
-pub fn links_ok<'a>(
+pub fn precedence_ok<'a>(
     from: &'a [u16],
     to: &'a [u16],
     e: u16,
     starts: &'a [u16],
     delays: &'a [u16],
 ) -> bool
-    ensures { λ r. ⌜ r ≡ allTo (linkOk (now (from .entry)) (now (to .entry)) (now (starts .entry)) (now (delays .entry))) e ⌝ }
+    ensures { λ r. ⌜ r ≡ precedenceOk (now (from .entry)) (now (to .entry)) e (now (starts .entry)) (now (delays .entry)) ⌝ }
 {
     let links = e as usize;
     let mut ok = true;

@@ -1,7 +1,6 @@
 // The rule on operations that share an instance.
 ghost use mathlib.Core.Path.{_≡_};
-ghost use Rattle.basics.specs.Counting.{allTo};
-ghost use Rattle.rules.specs.Rules.{apart as apartBy, shareOk, besideOk};
+ghost use Rattle.rules.specs.Rules.{apart as apartBy, shareOk, besideOk, resourceOk};
 use basics::cell;
 
 // The later start exceeds the other by at least the later operation's spacing.
@@ -11,7 +10,7 @@ pub fn apart(start: u16, later: u16, spacing: u16) -> bool
     (start < later) & (start as u32 + spacing as u32 <= later as u32)
 }
 
-// Operations a and b are not both placed on one instance, or start apart.
+// Operations a and b are not on one instance, not both placed, or start apart.
 fn share_ok<'a>(
     starts: &'a [u16],
     insts: &'a [u16],
@@ -21,10 +20,12 @@ fn share_ok<'a>(
 ) -> bool
     ensures { λ r. ⌜ r ≡ shareOk (now (starts .entry)) (now (insts .entry)) (now (spacings .entry)) b a ⌝ }
 {
+    if cell(insts, a) != cell(insts, b) {
+        return true;
+    }
     let start_a = cell(starts, a);
     let start_b = cell(starts, b);
-    let shared = (0 < start_a) & (0 < start_b) & (cell(insts, a) == cell(insts, b));
-    !shared
+    !((0 < start_a) & (0 < start_b))
         | apart(start_a, start_b, cell(spacings, b))
         | apart(start_b, start_a, cell(spacings, a))
 }
@@ -43,8 +44,8 @@ fn beside_ok<'a>(starts: &'a [u16], insts: &'a [u16], spacings: &'a [u16], b: us
 }
 
 // Each of the first n operations with each before it.
-pub fn shares_ok<'a>(starts: &'a [u16], insts: &'a [u16], spacings: &'a [u16], n: u16) -> bool
-    ensures { λ r. ⌜ r ≡ allTo (besideOk (now (starts .entry)) (now (insts .entry)) (now (spacings .entry))) n ⌝ }
+pub fn resource_ok<'a>(n: u16, starts: &'a [u16], insts: &'a [u16], spacings: &'a [u16]) -> bool
+    ensures { λ r. ⌜ r ≡ resourceOk n (now (starts .entry)) (now (insts .entry)) (now (spacings .entry)) ⌝ }
 {
     let ops = n as usize;
     let mut ok = true;

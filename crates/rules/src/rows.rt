@@ -1,7 +1,6 @@
 // The rule on rows.
 ghost use mathlib.Core.Path.{_≡_};
-ghost use Rattle.basics.specs.Faults.{first};
-ghost use Rattle.rules.specs.Rules.{rowFault, rowFaultAt};
+ghost use Rattle.rules.specs.Rules.{rowFault, rowsFault};
 use crate::selection::selected;
 use basics::cell;
 use basics::fault_unless;
@@ -39,7 +38,7 @@ pub fn rows_fault<'a>(
     delays: &'a [u16],
     selection: &'a [u16],
 ) -> u32
-    ensures { λ r. ⌜ r ≡ first (rowFaultAt k t (now (starts .entry)) (now (insts .entry)) (now (times .entry)) (now (delays .entry)) (now (selection .entry))) n ⌝ }
+    ensures { λ r. ⌜ r ≡ rowsFault n k t (now (starts .entry)) (now (insts .entry)) (now (times .entry)) (now (delays .entry)) (now (selection .entry)) ⌝ }
 {
     let rows = n as usize;
     let mut o: usize = 0;

@@ -1,8 +1,6 @@
 // A selection: its order, and its cost.
 ghost use mathlib.Core.Path.{_≡_};
-ghost use Rattle.basics.specs.Counting.{allTo, sumTo};
-ghost use Rattle.rules.specs.Selection.{selected as selectedIn, orderAt, costAt};
-use crate::model::type_of;
+ghost use Rattle.rules.specs.Selection.{selected as selectedIn, orderAt, orderOk, selectionCost};
 use basics::cell;
 
 // Instance i is selected.
@@ -13,44 +11,38 @@ pub fn selected(selection: &[u16], i: usize) -> bool
 }
 
 // Instance i and the one before it keep selection order.
-fn order_at<'a>(copies: &'a [u16], m: u16, selection: &'a [u16], i: usize) -> bool
-    ensures { λ r. ⌜ r ≡ orderAt (now (copies .entry)) m (now (selection .entry)) i ⌝ }
+fn order_at<'a>(types: &'a [u16], selection: &'a [u16], i: usize) -> bool
+    ensures { λ r. ⌜ r ≡ orderAt (now (types .entry)) (now (selection .entry)) i ⌝ }
 {
     if i == 0 {
         return true;
     }
-    let other_type = type_of(copies, m, i - 1) != type_of(copies, m, i);
+    let other_type = cell(types, i - 1) != cell(types, i);
     other_type | !selected(selection, i - 1) | selected(selection, i)
 }
 
 // Within a type no selected instance of the first k precedes an unselected one.
-pub fn order_ok<'a>(copies: &'a [u16], m: u16, selection: &'a [u16], k: usize) -> bool
-    ensures { λ r. ⌜ r ≡ allTo (orderAt (now (copies .entry)) m (now (selection .entry))) k ⌝ }
+pub fn order_ok<'a>(types: &'a [u16], selection: &'a [u16], k: usize) -> bool
+    ensures { λ r. ⌜ r ≡ orderOk (now (types .entry)) (now (selection .entry)) k ⌝ }
 {
     let mut ok = true;
     let mut i: usize = 0;
     while i < k {
-        ok = ok & order_at(copies, m, selection, i);
+        ok = ok & order_at(types, selection, i);
         i += 1;
     }
     ok
 }
 
 // What the first k instances cost, as far as they are selected.
-pub fn selection_cost<'a>(
-    costs: &'a [u16],
-    copies: &'a [u16],
-    m: u16,
-    selection: &'a [u16],
-    k: u16,
-) -> u32
-    ensures { λ r. ⌜ r ≡ sumTo (costAt (now (costs .entry)) (now (copies .entry)) m (selectedIn (now (selection .entry)))) k ⌝ }
+pub fn selection_cost<'a>(costs: &'a [u16], types: &'a [u16], selection: &'a [u16], k: u16) -> u32
+    ensures { λ r. ⌜ r ≡ selectionCost (now (costs .entry)) (now (types .entry)) (selectedIn (now (selection .entry))) k ⌝ }
 {
     let count = k as usize;
     let mut sum: u32 = 0;
     let mut i: usize = 0;
     while i < count {
-        let y = type_of(copies, m, i);
+        let y = cell(types, i);
         sum += basics::only(selected(selection, i), cell(costs, y as usize) as u32);
         i += 1;
     }

@@ -6,7 +6,9 @@ ghost use Rattle.sheets.specs.PlanSheet.{readPlan, writePlan, planOut};
 ghost use Rattle.tolmupung.specs.Promises.{jobSays, planSays};
 ghost use Rattle.basics.specs.Answers.{Promise};
 ghost use Rattle.sheets.specs.Answers.{writtenSays};
+ghost use Rattle.rules.specs.Judge.{judge, judgedSays};
 use basics::Answer;
+use rules::judging::judged_says;
 use sheets::Job;
 use sheets::Plan;
 use sheets::answers::reading_says;
@@ -62,4 +64,11 @@ pub extern "C" fn tolmupung_write_plan(plan: Plan, out: &mut [u8]) -> Answer
     ensures { λ r. ⌜ Promise (writtenSays (writePlan plan (length (now (out .entry))))) (planOut plan (now (out .entry))) r (now (out .exit)) ⌝ }
 {
     written_says(sheets::plans::write_plan(plan, out))
+}
+
+#[no_mangle]
+pub extern "C" fn tolmupung_judge(job: &[u8], plan: &[u8]) -> Answer
+    ensures { λ r. ⌜ r ≡ judgedSays (judge (now (job .entry)) (now (plan .entry))) ⌝ }
+{
+    judged_says(rules::judging::judge(job, plan))
 }

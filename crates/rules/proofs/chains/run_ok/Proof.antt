@@ -1,10 +1,25 @@
--- The test is the definition.
+-- Where the link joins no two in one step, nothing is brought and nothing is long.
+use mathlib.Core.Bool.{false, true}
+use mathlib.Core.Path.{_∙_, _≡_, sym}
 use native.Mathlib.Omega.{arith}
 use borrow.Author.Needs.{needs}
+use borrow.Author.Tests.{not-false, not-true}
 use Rattle.basics.specs.Tables.{cell}
-use Rattle.rules.specs.Rules.{carried, runOk}
+use Rattle.rules.specs.Rules.{carried, sameStep}
+use Rattle.rules.proofs.ChainLaws.{bound-off, bound-on, run-off, run-on}
 use Rattle.rules.proofs.chains.run_ok.Statement.{statement}
 use Rattle.rules.proofs.chains.run_ok.Tie as tie
+
+same-step-requires : tie.Need-same-step-requires
+same-step-requires c κs = search needs
+
+returns : tie.Need-returns
+returns c =
+    let e : sameStep _ _ _ _ ≡ false = sym (c .before .same-step .ensures) ∙ not-true _ (c .if1 .taken) in
+    (run-off _ _ _ _ _ _ _ _ e, bound-off _ _ _ _ _ _ _ e (c .before .before .before .before .before .before .before .pre .1))
+
+carried-requires : tie.Need-carried-requires
+carried-requires c κs = c .before .before .before .before .before .before .before .before .pre
 
 cell-requires : tie.Need-cell-requires
 cell-requires c κs = search needs
@@ -12,34 +27,39 @@ cell-requires c κs = search needs
 cast-b : tie.Need-cast-b
 cast-b c = omega arith
 
-carried-requires : tie.Need-carried-requires
-carried-requires c κs = c .before .before .before .before .before .before .pre
+raise-requires : tie.Need-raise-requires
+raise-requires c κs = search needs
 
 cell-requires-2 : tie.Need-cell-requires-2
 cell-requires-2 c κs = search needs
 
-cast-total : tie.Need-cast-total
-cast-total c = omega arith
+cast-result : tie.Need-cast-result
+cast-result c = omega arith
 
-add-total : tie.Need-add-total
-add-total c = omega (arith, c .before .carried .ensures .1)
+add-result : tie.Need-add-result
+add-result c = omega (arith, c .before .before .before .before .before .before .carried .ensures .1)
 
-same-step-requires : tie.Need-same-step-requires
-same-step-requires c κs = search needs
+same-length : tie.Need-same-length
+same-length c = search needs
 
-returns : tie.Need-returns
-unfolding runOk
-returns c = simp (c .same-step .ensures, c .before .cell2 .ensures .0, c .before .before .carried .ensures .0, c .before .before .before .cell .ensures .0)
+returns-2 : tie.Need-returns-2
+returns-2 c =
+    let k = c .before .before .before .before .before .before .carried .ensures in
+    let e : sameStep _ _ _ _ ≡ true = sym (c .before .before .before .before .before .before .before .before .before .same-step .ensures) ∙ not-false _ (c .before .before .before .before .before .before .before .before .if1 .left) in
+    (run-on _ _ _ _ _ _ _ _ e (simp (k .0, c .cell2 .ensures .0, c .before .before .before .before .before .cell .ensures .0)), bound-on _ _ _ _ _ _ _ _ _ _ e (k .0) (k .1) (c .before .before .before .before .before .before .before .before .before .before .before .before .before .before .before .pre .1) (c .before .before .before .before .before .cell .ensures .0) (c .before .before .before .raise .ensures))
 
 pub run-ok-spec : {M : Type 1} → statement M
 run-ok-spec =
     tie.close
     (tie.spec
+    same-step-requires
+    returns
+    carried-requires
     cell-requires
     cast-b
-    carried-requires
+    raise-requires
     cell-requires-2
-    cast-total
-    add-total
-    same-step-requires
-    returns)
+    cast-result
+    add-result
+    same-length
+    returns-2)

@@ -1,21 +1,96 @@
 -- The first fault refuses; else the selection is added up.
-use mathlib.Core.Path.{_∙_, sym}
+use mathlib.Core.Path.{_∙_, _≡_, sym}
 use borrow.Author.Needs.{needs}
-use Rattle.rules.proofs.JudgeLaws.{judged-passed, judged-refused}
+use Rattle.rules.specs.Judge.{judgeFault}
+use Rattle.rules.proofs.JudgeLaws.{fault-is, judged-passed, judged-refused}
+use Rattle.rules.proofs.ModelLaws.{types-counted}
 use Rattle.rules.proofs.judging.judged.Statement.{statement}
 use Rattle.rules.proofs.judging.judged.Tie as tie
 
-judge-fault-requires : tie.Need-judge-fault-requires
-judge-fault-requires c κs = search needs
+-- the first fault
+fault : (c : tie.After-or-else3) → c .or-else3 .result ≡ judgeFault (c .before .before .before .before .before .before .before .before .before .before .before .before .before .before .before .before .before .before .before .before .before .before .before .before .before .before .before .before .before .before .before .before .before .before .before .before .before .before .before .before .before .before .before .before .before .before .before .before .before .before .before .before .before .before .args .t1) (c .before .before .before .before .before .before .before .before .before .before .before .before .before .before .before .before .before .before .before .before .before .before .before .before .before .before .before .before .before .before .before .before .before .before .before .before .before .before .before .before .before .before .before .before .before .before .before .before .before .before .before .before .before .before .args .t2)
+fault c =
+    let b4 = c .before .before .before .before in
+    let b15 = b4 .before .before .before .before .before .before .before .before .before .before .before in
+    let b28 = b15 .before .before .before .before .before .before .before .before .before .before .before .before .before in
+    let b34 = b28 .before .before .before .before .before .before in
+    let b46 = b34 .before .before .before .before .before .before .before .before .before .before .before .before in
+    let b50 = b46 .before .before .before .before in
+    fault-is _ _ _ _ _ _ _ _ _ _ _ (b50 .inst-count .ensures) (b46 .types-of .ensures) (b34 .timing-of .ensures) (b28 .before .before .before .before .before .counts-fault .ensures) (b28 .order-ok .ensures)
+    (b15 .rows-fault .ensures) (b4 .placing-fault .ensures) (c .before .before .before .fault-unless .ensures) (rw (c .or-else3 .ensures, c .before .or-else2 .ensures, c .before .before .or-else .ensures))
+
+inst-count-requires : tie.Need-inst-count-requires
+inst-count-requires c κs = search needs
+
+types-of-requires : tie.Need-types-of-requires
+types-of-requires c κs = search needs
+
+slice-aggregate-timing-of : tie.Need-slice-aggregate-timing-of
+slice-aggregate-timing-of c = search needs
+
+timing-of-requires : tie.Need-timing-of-requires
+timing-of-requires c κs = search needs
+
+counts-fault-requires : tie.Need-counts-fault-requires
+counts-fault-requires c κs = search needs
+
+slice-aggregate-order-ok : tie.Need-slice-aggregate-order-ok
+slice-aggregate-order-ok c = search needs
+
+order-ok-requires : tie.Need-order-ok-requires
+order-ok-requires c κs = search needs
+
+rows-fault-requires : tie.Need-rows-fault-requires
+rows-fault-requires c κs = search needs
+
+placing-fault-requires : tie.Need-placing-fault-requires
+placing-fault-requires c κs = search needs
+
+fault-unless-requires : tie.Need-fault-unless-requires
+fault-unless-requires c κs = search needs
+
+or-else-requires : tie.Need-or-else-requires
+or-else-requires c κs = search needs
+
+or-else-requires-2 : tie.Need-or-else-requires-2
+or-else-requires-2 c κs = search needs
+
+or-else-requires-3 : tie.Need-or-else-requires-3
+or-else-requires-3 c κs = search needs
 
 returns : tie.Need-returns
-returns c = judged-refused _ _ _ (c .before .judge-fault .ensures) (c .if1 .taken)
+returns c = judged-refused _ _ _ (fault (c .before)) (c .if1 .taken)
+
+slice-aggregate-selection-cost : tie.Need-slice-aggregate-selection-cost
+slice-aggregate-selection-cost c = types-counted _ _ _ (c .before .before .before .before .before .before .before .before .before .before .before .before .before .before .before .before .before .before .before .before .before .before .before .before .before .before .before .before .before .before .before .before .before .before .before .before .before .before .before .before .before .before .before .before .before .before .before .before .before .before .before .types-of .ensures)
 
 selection-cost-requires : tie.Need-selection-cost-requires
 selection-cost-requires c κs = search needs
 
 returns-2 : tie.Need-returns-2
-returns-2 c = judged-passed _ _ _ (sym (c .before .before .before .before .before .before .before .before .before .before .judge-fault .ensures) ∙ c .before .before .before .before .before .before .before .before .before .if1 .left) (c .selection-cost .ensures)
+returns-2 c =
+    let b9 = c .before .before .before .before .before .before .before .before .before in
+    let b55 = b9 .before .before .before .before .before .before .before .before .before .before .before .before .before .before .before .before .before .before .before .before .before .before .before .before .before .before .before .before .before .before .before .before .before .before .before .before .before .before .before .before .before .before .before .before .before .before in
+    judged-passed _ _ _ (sym (fault b9) ∙ c .before .before .before .before .before .before .before .before .if1 .left) (rw (b55 .types-of .ensures) at (c .selection-cost .ensures))
 
 pub judged-spec : {M : Type 1} → statement M
-judged-spec = tie.close (tie.spec judge-fault-requires returns selection-cost-requires returns-2)
+judged-spec =
+    tie.close
+    (tie.spec
+    inst-count-requires
+    types-of-requires
+    slice-aggregate-timing-of
+    timing-of-requires
+    counts-fault-requires
+    slice-aggregate-order-ok
+    order-ok-requires
+    rows-fault-requires
+    placing-fault-requires
+    fault-unless-requires
+    or-else-requires
+    or-else-requires-2
+    or-else-requires-3
+    returns
+    slice-aggregate-selection-cost
+    selection-cost-requires
+    returns-2)

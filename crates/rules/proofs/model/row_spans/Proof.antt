@@ -11,10 +11,10 @@ use Rattle.rules.proofs.model.row_spans.Statement.{statement}
 use Rattle.rules.proofs.model.row_spans.Tie as tie
 
 abbrev Inv-loop : tie.InvT-loop
-Inv-loop copies m kinds pairs insts spans₀ o₀ spans o = (o ≤ opCells) × (spans ≡ cells (rowAt (spanOf copies m kinds pairs) insts) o opCells)
+Inv-loop types kinds pairs insts spans₀ o₀ spans o = (o ≤ opCells) × (spans ≡ cells (rowAt (spanOf types kinds pairs) insts) o opCells)
 
 abbrev μ-loop : tie.MeasureT-loop
-μ-loop copies m kinds pairs insts spans₀ o₀ spans o = opCells - o
+μ-loop types kinds pairs insts spans₀ o₀ spans o = opCells - o
 
 loop-holds : tie.Need-loop-holds Inv-loop μ-loop
 unfolding filled
@@ -23,17 +23,8 @@ loop-holds c = search needs
 cell-requires : tie.Need-cell-requires Inv-loop μ-loop
 cell-requires c κs = search needs
 
-cast-type-of : tie.Need-cast-type-of Inv-loop μ-loop
-cast-type-of c = omega arith
-
-type-of-requires : tie.Need-type-of-requires Inv-loop μ-loop
-type-of-requires c κs = search needs
-
 cast-cell : tie.Need-cast-cell Inv-loop μ-loop
 cast-cell c = omega arith
-
-mul-cell : tie.Need-mul-cell Inv-loop μ-loop
-mul-cell c = omega arith
 
 cell-requires-2 : tie.Need-cell-requires-2 Inv-loop μ-loop
 cell-requires-2 c κs = search needs
@@ -41,11 +32,20 @@ cell-requires-2 c κs = search needs
 cast-cell-2 : tie.Need-cast-cell-2 Inv-loop μ-loop
 cast-cell-2 c = omega arith
 
-add-cell : tie.Need-add-cell Inv-loop μ-loop
-add-cell c = omega arith
+mul-cell : tie.Need-mul-cell Inv-loop μ-loop
+mul-cell c = omega arith
 
 cell-requires-3 : tie.Need-cell-requires-3 Inv-loop μ-loop
 cell-requires-3 c κs = search needs
+
+cast-cell-3 : tie.Need-cast-cell-3 Inv-loop μ-loop
+cast-cell-3 c = omega arith
+
+add-cell : tie.Need-add-cell Inv-loop μ-loop
+add-cell c = omega arith
+
+cell-requires-4 : tie.Need-cell-requires-4 Inv-loop μ-loop
+cell-requires-4 c κs = search needs
 
 mul-spans : tie.Need-mul-spans Inv-loop μ-loop
 mul-spans c = omega arith
@@ -62,7 +62,7 @@ loop-less c = omega arith
 loop-again : tie.Need-loop-again Inv-loop μ-loop
 loop-again c =
     let l = c .before .before .before .before .before .loop .inv in
-    (omega arith, rw (filled-more, ← l .1, c .cell3 .ensures .0, c .before .cell2 .ensures .0, c .before .before .type-of .ensures .0, c .before .before .before .cell .ensures .0))
+    (omega arith, rw (filled-more, ← l .1, c .cell4 .ensures .0, c .before .cell3 .ensures .0, c .before .before .cell2 .ensures .0, c .before .before .before .cell .ensures .0))
 
 returns : tie.Need-returns Inv-loop μ-loop
 returns c =
@@ -77,14 +77,14 @@ row-spans-spec =
     μ-loop
     loop-holds
     cell-requires
-    cast-type-of
-    type-of-requires
     cast-cell
-    mul-cell
     cell-requires-2
     cast-cell-2
-    add-cell
+    mul-cell
     cell-requires-3
+    cast-cell-3
+    add-cell
+    cell-requires-4
     mul-spans
     array-write-spans
     add-o

@@ -1,4 +1,4 @@
--- Rows of times and intervals, then each in steps.
+-- Times and intervals of the rows, then each in steps.
 use borrow.Author.Needs.{needs}
 use Rattle.rules.proofs.ModelLaws.{timing-is}
 use Rattle.rules.proofs.model.timing_of.Statement.{statement}
@@ -6,9 +6,6 @@ use Rattle.rules.proofs.model.timing_of.Tie as tie
 
 row-spans-requires : tie.Need-row-spans-requires
 row-spans-requires c κs = search needs
-
-row-spans-requires-2 : tie.Need-row-spans-requires-2
-row-spans-requires-2 c κs = search needs
 
 slice-aggregate-in-steps : tie.Need-slice-aggregate-in-steps
 slice-aggregate-in-steps c = search needs
@@ -18,6 +15,9 @@ slice-aggregate-in-steps-2 c = search needs
 
 in-steps-requires : tie.Need-in-steps-requires
 in-steps-requires c κs = search needs
+
+row-spans-requires-2 : tie.Need-row-spans-requires-2
+row-spans-requires-2 c κs = search needs
 
 slice-aggregate-in-steps-3 : tie.Need-slice-aggregate-in-steps-3
 slice-aggregate-in-steps-3 c = search needs
@@ -29,17 +29,17 @@ in-steps-requires-2 : tie.Need-in-steps-requires-2
 in-steps-requires-2 c κs = search needs
 
 returns : tie.Need-returns
-returns c = timing-is _ _ _ _ _ _ (c .before .before .before .before .before .before .before .before .before .before .before .before .before .before .before .before .row-spans .ensures) (c .before .before .before .before .before .before .before .before .row-spans2 .ensures) (c .before .before .before .before .before .in-steps .ensures) (c .before .in-steps2 .ensures)
+returns c = timing-is _ _ _ _ _ _ _ _ _ _ (c .before .before .before .before .before .before .before .before .before .row-spans .ensures) (c .before .before .before .before .row-spans2 .ensures) (c .before .before .before .before .before .before .in-steps .ensures) (c .before .in-steps2 .ensures)
 
 pub timing-of-spec : {M : Type 1} → statement M
 timing-of-spec =
     tie.close
     (tie.spec
     row-spans-requires
-    row-spans-requires-2
     slice-aggregate-in-steps
     slice-aggregate-in-steps-2
     in-steps-requires
+    row-spans-requires-2
     slice-aggregate-in-steps-3
     slice-aggregate-in-steps-4
     in-steps-requires-2

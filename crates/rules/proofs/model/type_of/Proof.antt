@@ -6,16 +6,16 @@ use borrow.Author.Needs.{needs}
 use Rattle.basics.specs.Counting.{only, sumTo}
 use Rattle.basics.specs.Tables.{cell}
 use Rattle.basics.proofs.CountLaws.{only-small, sumTo-more}
-use Rattle.rules.specs.Model.{behind, typeIn}
+use Rattle.rules.specs.Model.{behind, typeAt}
 use Rattle.rules.proofs.ModelLaws.{behind-is}
 use Rattle.rules.proofs.model.type_of.Statement.{statement}
 use Rattle.rules.proofs.model.type_of.Tie as tie
 
 abbrev Inv-loop : tie.InvT-loop
-Inv-loop copies m i types sum₀ before₀ y₀ sum before y = (y ≤ types) × (before ≤ y) × (sum ≤ 65536 * y) × (sum ≡ sumTo (cell copies) y) × (before ≡ sumTo (behind copies i) y)
+Inv-loop copies m i types sum₀ passed₀ y₀ sum passed y = (y ≤ types) × (passed ≤ y) × (sum ≤ 65536 * y) × (sum ≡ sumTo (cell copies) y) × (passed ≡ sumTo (behind copies i) y)
 
 abbrev μ-loop : tie.MeasureT-loop
-μ-loop copies m i types sum₀ before₀ y₀ sum before y = types - y
+μ-loop copies m i types sum₀ passed₀ y₀ sum passed y = types - y
 
 -- a type is counted once
 counted : (c : tie.After-only Inv-loop μ-loop) → c .only .result ≤ 1
@@ -37,11 +37,11 @@ add-sum c = omega arith
 only-requires : tie.Need-only-requires Inv-loop μ-loop
 only-requires c κs = search needs
 
-cast-before : tie.Need-cast-before Inv-loop μ-loop
-cast-before c = omega (arith, counted c)
+cast-passed : tie.Need-cast-passed Inv-loop μ-loop
+cast-passed c = omega (arith, counted c)
 
-add-before : tie.Need-add-before Inv-loop μ-loop
-add-before c = omega (arith, counted c)
+add-passed : tie.Need-add-passed Inv-loop μ-loop
+add-passed c = omega (arith, counted c)
 
 add-y : tie.Need-add-y Inv-loop μ-loop
 add-y c = omega arith
@@ -59,7 +59,7 @@ cast-result : tie.Need-cast-result Inv-loop μ-loop
 cast-result c = omega arith
 
 returns : tie.Need-returns Inv-loop μ-loop
-unfolding typeIn
+unfolding typeAt
 returns c =
     let e : c .before .loop .y ≡ c .before .before .before .args .m = omega arith in
     (rw e at (c .before .loop .inv .4), omega arith)
@@ -75,8 +75,8 @@ type-of-spec =
     cast-sum
     add-sum
     only-requires
-    cast-before
-    add-before
+    cast-passed
+    add-passed
     add-y
     loop-less
     loop-again

@@ -6,12 +6,12 @@ use borrow.Author.Needs.{needs}
 use Rattle.basics.specs.Tables.{cells, filled}
 use Rattle.basics.proofs.TableLaws.{filled-more}
 use Rattle.sheets.specs.Limits.{instCells}
-use Rattle.rules.specs.Model.{typeIn}
+use Rattle.rules.specs.Model.{typeAt, typesIn}
 use Rattle.rules.proofs.model.types_of.Statement.{statement}
 use Rattle.rules.proofs.model.types_of.Tie as tie
 
 abbrev Inv-loop : tie.InvT-loop
-Inv-loop copies m types₀ i₀ types i = (i ≤ instCells) × (types ≡ cells (typeIn copies m) i instCells)
+Inv-loop copies m types₀ i₀ types i = (i ≤ instCells) × (types ≡ cells (typeAt copies m) i instCells)
 
 abbrev μ-loop : tie.MeasureT-loop
 μ-loop copies m types₀ i₀ types i = instCells - i
@@ -39,6 +39,7 @@ loop-again : tie.Need-loop-again Inv-loop μ-loop
 loop-again c = (omega arith, rw (filled-more, ← c .before .before .loop .inv .1, c .type-of .ensures .0))
 
 returns : tie.Need-returns Inv-loop μ-loop
+unfolding typesIn
 returns c =
     let e : c .before .loop .i ≡ instCells = omega arith in
     rw e at (c .before .loop .inv .1)

@@ -5,12 +5,12 @@ use native.Mathlib.Omega.{arith}
 use borrow.Author.Needs.{needs}
 use Rattle.basics.specs.Tables.{cell, cells, filled}
 use Rattle.basics.proofs.TableLaws.{filled-more}
-use Rattle.rules.specs.Model.{spanAt, unitAt, unitCells}
+use Rattle.rules.specs.Model.{spanOf, unitAt, unitCells}
 use Rattle.rules.proofs.model.unit_spans.Statement.{statement}
 use Rattle.rules.proofs.model.unit_spans.Tie as tie
 
 abbrev Inv-loop : tie.InvT-loop
-Inv-loop types kinds pairs spans₀ c₀ spans c = (c ≤ unitCells) × (spans ≡ cells (unitAt (spanAt types kinds pairs)) c unitCells)
+Inv-loop types kinds pairs spans₀ c₀ spans c = (c ≤ unitCells) × (spans ≡ cells (unitAt (spanOf types kinds pairs)) c unitCells)
 
 abbrev μ-loop : tie.MeasureT-loop
 μ-loop types kinds pairs spans₀ c₀ spans c = unitCells - c

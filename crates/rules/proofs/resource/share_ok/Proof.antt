@@ -1,7 +1,9 @@
--- The cells are read, and the test is the definition.
+-- Two on different instances share nothing; else the test is the definition.
+use mathlib.Core.Path.{_∙_, sym}
 use borrow.Author.Needs.{needs}
 use Rattle.basics.specs.Tables.{cell}
-use Rattle.rules.specs.Rules.{apart, shareOk}
+use Rattle.rules.specs.Rules.{apart}
+use Rattle.rules.proofs.ResourceLaws.{share-other, share-same}
 use Rattle.rules.proofs.resource.share_ok.Statement.{statement}
 use Rattle.rules.proofs.resource.share_ok.Tie as tie
 
@@ -10,6 +12,9 @@ cell-requires c κs = search needs
 
 cell-requires-2 : tie.Need-cell-requires-2
 cell-requires-2 c κs = search needs
+
+returns : tie.Need-returns
+returns c = share-other _ _ _ _ _ (λ e. c .if1 .taken (c .before .before .cell .ensures .0 ∙ e ∙ sym (c .before .cell2 .ensures .0)))
 
 cell-requires-3 : tie.Need-cell-requires-3
 cell-requires-3 c κs = search needs
@@ -29,9 +34,8 @@ cell-requires-6 c κs = search needs
 apart-requires-2 : tie.Need-apart-requires-2
 apart-requires-2 c κs = search needs
 
-returns : tie.Need-returns
-unfolding shareOk
-returns c = simp (c .apart2 .ensures, c .before .cell6 .ensures .0, c .before .before .apart .ensures, c .before .before .before .cell5 .ensures .0, c .before .before .before .before .cell4 .ensures .0, c .before .before .before .before .before .cell3 .ensures .0, c .before .before .before .before .before .before .cell2 .ensures .0, c .before .before .before .before .before .before .before .cell .ensures .0)
+returns-2 : tie.Need-returns-2
+returns-2 c = share-same _ _ _ _ _ _ (sym (c .before .before .before .before .before .before .before .before .cell .ensures .0) ∙ c .before .before .before .before .before .before .if1 .left ∙ c .before .before .before .before .before .before .before .cell2 .ensures .0) (simp (c .apart2 .ensures, c .before .cell6 .ensures .0, c .before .before .apart .ensures, c .before .before .before .cell5 .ensures .0, c .before .before .before .before .cell4 .ensures .0, c .before .before .before .before .before .cell3 .ensures .0))
 
 pub share-ok-spec : {M : Type 1} → statement M
 share-ok-spec =
@@ -39,10 +43,11 @@ share-ok-spec =
     (tie.spec
     cell-requires
     cell-requires-2
+    returns
     cell-requires-3
     cell-requires-4
     cell-requires-5
     apart-requires
     cell-requires-6
     apart-requires-2
-    returns)
+    returns-2)

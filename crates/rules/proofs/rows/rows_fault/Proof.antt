@@ -6,7 +6,7 @@ use borrow.Author.Needs.{needs}
 use Rattle.basics.specs.Faults.{first}
 use Rattle.basics.specs.Tables.{cell}
 use Rattle.basics.proofs.FaultLaws.{first-at, first-more}
-use Rattle.rules.specs.Rules.{rowFaultAt}
+use Rattle.rules.specs.Rules.{rowFaultAt, rowsFault}
 use Rattle.rules.specs.Selection.{selected}
 use Rattle.rules.proofs.rows.rows_fault.Statement.{statement}
 use Rattle.rules.proofs.rows.rows_fault.Tie as tie
@@ -50,6 +50,7 @@ row-fault-requires : tie.Need-row-fault-requires Inv-loop μ-loop
 row-fault-requires c κs = search needs
 
 returns : tie.Need-returns Inv-loop μ-loop
+unfolding rowsFault
 returns c = first-at _ _ _ _ (omega arith) (c .before .before .before .before .before .before .before .before .loop .inv .1) (turn (c .before)) (c .if1 .taken)
 
 add-o : tie.Need-add-o Inv-loop μ-loop
@@ -62,6 +63,7 @@ loop-again : tie.Need-loop-again Inv-loop μ-loop
 loop-again c = (omega arith, first-more _ _ (c .before .before .before .before .before .before .before .before .loop .inv .1) ∙ sym (turn (c .before)) ∙ c .if1 .left)
 
 returns-2 : tie.Need-returns-2 Inv-loop μ-loop
+unfolding rowsFault
 returns-2 c =
     let e : c .before .loop .o ≡ c .before .before .before .before .before .before .before .args .n = omega arith in
     sym (rw e at (c .before .loop .inv .1))

@@ -2,6 +2,7 @@
 use mathlib.Core.Path.{sym}
 use native.Mathlib.Omega.{arith}
 use borrow.Author.Needs.{needs}
+use Rattle.basics.specs.Tables.{cell}
 use Rattle.rules.specs.Selection.{orderAt, selected}
 use Rattle.rules.proofs.SelectionLaws.{order-behind}
 use Rattle.rules.proofs.selection.order_at.Statement.{statement}
@@ -11,14 +12,14 @@ returns : tie.Need-returns
 unfolding orderAt
 returns c = sym (rw (c .if1 .taken))
 
-sub-type-of : tie.Need-sub-type-of
-sub-type-of c = omega arith
+sub-cell : tie.Need-sub-cell
+sub-cell c = omega arith
 
-type-of-requires : tie.Need-type-of-requires
-type-of-requires c κs = search needs
+cell-requires : tie.Need-cell-requires
+cell-requires c κs = search needs
 
-type-of-requires-2 : tie.Need-type-of-requires-2
-type-of-requires-2 c κs = search needs
+cell-requires-2 : tie.Need-cell-requires-2
+cell-requires-2 c κs = search needs
 
 sub-selected : tie.Need-sub-selected
 sub-selected c = omega arith
@@ -30,16 +31,16 @@ selected-requires-2 : tie.Need-selected-requires-2
 selected-requires-2 c κs = search needs
 
 returns-2 : tie.Need-returns-2
-returns-2 c = order-behind _ _ _ _ _ (c .before .before .before .before .if1 .left) (simp (c .selected2 .ensures, c .before .selected .ensures, c .before .before .type-of2 .ensures .0, c .before .before .before .type-of .ensures .0))
+returns-2 c = order-behind _ _ _ _ (c .before .before .before .before .if1 .left) (simp (c .selected2 .ensures, c .before .selected .ensures, c .before .before .cell2 .ensures .0, c .before .before .before .cell .ensures .0))
 
 pub order-at-spec : {M : Type 1} → statement M
 order-at-spec =
     tie.close
     (tie.spec
     returns
-    sub-type-of
-    type-of-requires
-    type-of-requires-2
+    sub-cell
+    cell-requires
+    cell-requires-2
     sub-selected
     selected-requires
     selected-requires-2

@@ -5,15 +5,15 @@ use native.Mathlib.Omega.{arith}
 use borrow.Author.Needs.{needs}
 use Rattle.basics.specs.Counting.{allTo}
 use Rattle.basics.proofs.CountLaws.{allTo-more}
-use Rattle.rules.specs.Selection.{orderAt}
+use Rattle.rules.specs.Selection.{orderAt, orderOk}
 use Rattle.rules.proofs.selection.order_ok.Statement.{statement}
 use Rattle.rules.proofs.selection.order_ok.Tie as tie
 
 abbrev Inv-loop : tie.InvT-loop
-Inv-loop copies m selection k ok₀ i₀ ok i = (i ≤ k) × (ok ≡ allTo (orderAt copies m selection) i)
+Inv-loop types selection k ok₀ i₀ ok i = (i ≤ k) × (ok ≡ allTo (orderAt types selection) i)
 
 abbrev μ-loop : tie.MeasureT-loop
-μ-loop copies m selection k ok₀ i₀ ok i = k - i
+μ-loop types selection k ok₀ i₀ ok i = k - i
 
 loop-holds : tie.Need-loop-holds Inv-loop μ-loop
 unfolding allTo
@@ -32,6 +32,7 @@ loop-again : tie.Need-loop-again Inv-loop μ-loop
 loop-again c = (omega arith, rw (allTo-more, ← c .before .before .loop .inv .1, c .order-at .ensures))
 
 returns : tie.Need-returns Inv-loop μ-loop
+unfolding orderOk
 returns c =
     let e : c .before .loop .i ≡ c .before .before .before .before .args .k = omega arith in
     rw e at (c .before .loop .inv .1)

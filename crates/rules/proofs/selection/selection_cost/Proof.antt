@@ -6,26 +6,26 @@ use borrow.Author.Needs.{needs}
 use Rattle.basics.specs.Counting.{only, sumTo}
 use Rattle.basics.specs.Tables.{cell}
 use Rattle.basics.proofs.CountLaws.{only-small, sumTo-more}
-use Rattle.rules.specs.Selection.{costAt, selected}
+use Rattle.rules.specs.Selection.{costAt, selected, selectionCost}
 use Rattle.rules.proofs.selection.selection_cost.Statement.{statement}
 use Rattle.rules.proofs.selection.selection_cost.Tie as tie
 
 abbrev Inv-loop : tie.InvT-loop
-Inv-loop costs copies m selection k count sum₀ i₀ sum i = (i ≤ count) × (sum ≤ 65535 * i) × (sum ≡ sumTo (costAt costs copies m (selected selection)) i)
+Inv-loop costs types selection k count sum₀ i₀ sum i = (i ≤ count) × (sum ≤ 65535 * i) × (sum ≡ sumTo (costAt costs types (selected selection)) i)
 
 abbrev μ-loop : tie.MeasureT-loop
-μ-loop costs copies m selection k count sum₀ i₀ sum i = count - i
+μ-loop costs types selection k count sum₀ i₀ sum i = count - i
 
 -- what an instance adds is at most a cost
 small : (c : tie.After-only Inv-loop μ-loop) → c .only .result ≤ 65535
-small c = let k = only-small (c .before .before .selected .result) (c .before .cell .result) in omega (arith, c .only .ensures, c .before .cell .ensures .1)
+small c = let k = only-small (c .before .before .selected .result) (c .before .cell2 .result) in omega (arith, c .only .ensures, c .before .cell2 .ensures .1)
 
 loop-holds : tie.Need-loop-holds Inv-loop μ-loop
 unfolding sumTo
 loop-holds c = search needs
 
-type-of-requires : tie.Need-type-of-requires Inv-loop μ-loop
-type-of-requires c κs = search needs
+cell-requires : tie.Need-cell-requires Inv-loop μ-loop
+cell-requires c κs = search needs
 
 selected-requires : tie.Need-selected-requires Inv-loop μ-loop
 selected-requires c κs = search needs
@@ -33,8 +33,8 @@ selected-requires c κs = search needs
 cast-cell : tie.Need-cast-cell Inv-loop μ-loop
 cast-cell c = omega arith
 
-cell-requires : tie.Need-cell-requires Inv-loop μ-loop
-cell-requires c κs = search needs
+cell-requires-2 : tie.Need-cell-requires-2 Inv-loop μ-loop
+cell-requires-2 c κs = search needs
 
 cast-only : tie.Need-cast-only Inv-loop μ-loop
 cast-only c = omega arith
@@ -55,9 +55,10 @@ loop-again : tie.Need-loop-again Inv-loop μ-loop
 unfolding costAt
 loop-again c =
     let l = c .before .before .before .before .before .loop .inv in
-    (omega arith, omega (arith, small c), rw (sumTo-more, ← l .2, c .only .ensures, c .before .cell .ensures .0, c .before .before .selected .ensures, c .before .before .before .type-of .ensures .0))
+    (omega arith, omega (arith, small c), rw (sumTo-more, ← l .2, c .only .ensures, c .before .cell2 .ensures .0, c .before .before .selected .ensures, c .before .before .before .cell .ensures .0))
 
 returns : tie.Need-returns Inv-loop μ-loop
+unfolding selectionCost
 returns c =
     let e : c .before .loop .i ≡ c .before .before .before .before .before .args .k = omega arith in
     rw e at (c .before .loop .inv .2)
@@ -69,10 +70,10 @@ selection-cost-spec =
     Inv-loop
     μ-loop
     loop-holds
-    type-of-requires
+    cell-requires
     selected-requires
     cast-cell
-    cell-requires
+    cell-requires-2
     cast-only
     only-requires
     add-sum

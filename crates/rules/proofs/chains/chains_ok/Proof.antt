@@ -8,11 +8,11 @@ use Rattle.basics.specs.Counting.{allTo}
 use Rattle.basics.specs.Tables.{cell}
 use Rattle.basics.proofs.CountLaws.{allTo-more}
 use Rattle.sheets.specs.Limits.{opCells}
-use Rattle.rules.specs.Rules.{Bounded, broughtBy, runOkAt}
+use Rattle.rules.specs.Rules.{Bounded, broughtBy, chainsOk, runOkAt}
 use Rattle.rules.proofs.ChainLaws.{brings-length, brought-more}
 use lib.ListN.{List·getD-eq-default}
-use Rattle.rules.proofs.chains.runs_ok.Statement.{statement}
-use Rattle.rules.proofs.chains.runs_ok.Tie as tie
+use Rattle.rules.proofs.chains.chains_ok.Statement.{statement}
+use Rattle.rules.proofs.chains.chains_ok.Tie as tie
 
 abbrev Inv-loop : tie.InvT-loop
 Inv-loop from to e wire clock starts times links brought₀ ok₀ l₀ brought ok l = (l ≤ links) × (length brought ≡ opCells) × (brought ≡ broughtBy from to wire starts times l) × Bounded brought l × (ok ≡ allTo (runOkAt from to wire clock starts times) l)
@@ -36,12 +36,6 @@ slice-aggregate-run-ok c = sym (c .before .before .loop .inv .1)
 run-ok-requires : tie.Need-run-ok-requires Inv-loop μ-loop
 run-ok-requires c κs = (omega arith, c .before .before .loop .inv .3)
 
-slice-aggregate-bring : tie.Need-slice-aggregate-bring Inv-loop μ-loop
-slice-aggregate-bring c = sym (c .before .before .before .before .loop .inv .1)
-
-bring-requires : tie.Need-bring-requires Inv-loop μ-loop
-bring-requires c κs = (omega arith, c .before .before .before .before .loop .inv .3)
-
 add-l : tie.Need-add-l Inv-loop μ-loop
 add-l c = omega arith
 
@@ -50,17 +44,18 @@ loop-less c = omega arith
 
 loop-again : tie.Need-loop-again Inv-loop μ-loop
 loop-again c =
-    let i = c .before .before .before .before .before .before .loop .inv in
-    let r = c .before .bring .ensures in
-    (omega arith, ap length (r .0) ∙ brings-length _ _ _ _ _ _ _ ∙ i .1, rw (brought-more, ← i .2) (r .0), r .1, rw (allTo-more, ← i .4, c .before .before .before .run-ok .ensures, i .2))
+    let i = c .before .before .before .before .loop .inv in
+    let r = c .before .run-ok .ensures in
+    (omega arith, ap length (r .1 .0) ∙ brings-length _ _ _ _ _ _ _ ∙ i .1, rw (brought-more, ← i .2) (r .1 .0), r .1 .1, rw (allTo-more, ← i .4, r .0, i .2))
 
 returns : tie.Need-returns Inv-loop μ-loop
+unfolding chainsOk
 returns c =
     let e : c .before .loop .l ≡ c .before .before .before .before .before .before .args .e = omega arith in
     rw e at (c .before .loop .inv .4)
 
-pub runs-ok-spec : {M : Type 1} → statement M
-runs-ok-spec =
+pub chains-ok-spec : {M : Type 1} → statement M
+chains-ok-spec =
     tie.close
     (tie.spec
     Inv-loop
@@ -68,8 +63,6 @@ runs-ok-spec =
     loop-holds
     slice-aggregate-run-ok
     run-ok-requires
-    slice-aggregate-bring
-    bring-requires
     add-l
     loop-less
     loop-again

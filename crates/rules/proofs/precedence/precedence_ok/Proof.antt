@@ -5,9 +5,9 @@ use native.Mathlib.Omega.{arith}
 use borrow.Author.Needs.{needs}
 use Rattle.basics.specs.Counting.{allTo}
 use Rattle.basics.proofs.CountLaws.{allTo-more}
-use Rattle.rules.specs.Rules.{linkOk}
-use Rattle.rules.proofs.precedence.links_ok.Statement.{statement}
-use Rattle.rules.proofs.precedence.links_ok.Tie as tie
+use Rattle.rules.specs.Rules.{linkOk, precedenceOk}
+use Rattle.rules.proofs.precedence.precedence_ok.Statement.{statement}
+use Rattle.rules.proofs.precedence.precedence_ok.Tie as tie
 
 abbrev Inv-loop : tie.InvT-loop
 Inv-loop from to e starts delays links ok₀ l₀ ok l = (l ≤ links) × (ok ≡ allTo (linkOk from to starts delays) l)
@@ -32,11 +32,12 @@ loop-again : tie.Need-loop-again Inv-loop μ-loop
 loop-again c = (omega arith, rw (allTo-more, ← c .before .before .loop .inv .1, c .link-ok .ensures))
 
 returns : tie.Need-returns Inv-loop μ-loop
+unfolding precedenceOk
 returns c =
     let e : c .before .loop .l ≡ c .before .before .before .before .before .before .args .e = omega arith in
     rw e at (c .before .loop .inv .1)
 
-pub links-ok-spec : {M : Type 1} → statement M
-links-ok-spec =
+pub precedence-ok-spec : {M : Type 1} → statement M
+precedence-ok-spec =
     tie.close
     (tie.spec Inv-loop μ-loop loop-holds link-ok-requires add-l loop-less loop-again returns)

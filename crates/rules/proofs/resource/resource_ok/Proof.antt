@@ -5,15 +5,15 @@ use native.Mathlib.Omega.{arith}
 use borrow.Author.Needs.{needs}
 use Rattle.basics.specs.Counting.{allTo}
 use Rattle.basics.proofs.CountLaws.{allTo-more}
-use Rattle.rules.specs.Rules.{besideOk}
-use Rattle.rules.proofs.resource.shares_ok.Statement.{statement}
-use Rattle.rules.proofs.resource.shares_ok.Tie as tie
+use Rattle.rules.specs.Rules.{besideOk, resourceOk}
+use Rattle.rules.proofs.resource.resource_ok.Statement.{statement}
+use Rattle.rules.proofs.resource.resource_ok.Tie as tie
 
 abbrev Inv-loop : tie.InvT-loop
-Inv-loop starts insts spacings n ops ok₀ b₀ ok b = (b ≤ ops) × (ok ≡ allTo (besideOk starts insts spacings) b)
+Inv-loop n starts insts spacings ops ok₀ b₀ ok b = (b ≤ ops) × (ok ≡ allTo (besideOk starts insts spacings) b)
 
 abbrev μ-loop : tie.MeasureT-loop
-μ-loop starts insts spacings n ops ok₀ b₀ ok b = ops - b
+μ-loop n starts insts spacings ops ok₀ b₀ ok b = ops - b
 
 loop-holds : tie.Need-loop-holds Inv-loop μ-loop
 unfolding allTo
@@ -32,11 +32,12 @@ loop-again : tie.Need-loop-again Inv-loop μ-loop
 loop-again c = (omega arith, rw (allTo-more, ← c .before .before .loop .inv .1, c .beside-ok .ensures))
 
 returns : tie.Need-returns Inv-loop μ-loop
+unfolding resourceOk
 returns c =
     let e : c .before .loop .b ≡ c .before .before .before .before .before .args .n = omega arith in
     rw e at (c .before .loop .inv .1)
 
-pub shares-ok-spec : {M : Type 1} → statement M
-shares-ok-spec =
+pub resource-ok-spec : {M : Type 1} → statement M
+resource-ok-spec =
     tie.close
     (tie.spec Inv-loop μ-loop loop-holds beside-ok-requires add-b loop-less loop-again returns)
