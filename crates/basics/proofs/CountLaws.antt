@@ -1,9 +1,10 @@
 -- Laws of `allTo`, `sumTo` and `only`: one number more, what holds of all holds of each, and a bound.
-use Prim.Native.Nat.{ℕ, zero, suc, _+_, _<_, _≤_}
+use Prim.Native.Nat.{ℕ, zero, suc, _+_, _*_, _<_, _≤_}
 use mathlib.Core.Path.{_≡_, refl}
 use mathlib.Core.Logic.{_⊎_, inl, inr}
 use mathlib.Core.Bool.{Bool, true, false, _&&_, _||_}
-use native.Mathlib.Decide.{ℕ-discrete}
+use native.Mathlib.Decide.{ℕ-discrete, decLt}
+use native.Mathlib.Nat.{mul-suc}
 use native.Mathlib.Numerals.{add-one}
 use native.Mathlib.Omega.{arith}
 use Rattle.basics.specs.Counting.{allTo, sumTo, only}
@@ -46,6 +47,25 @@ pub each-allTo : (test : ℕ → Bool) (n : ℕ) → ((i : ℕ) → i < n → te
 unfolding allTo
 each-allTo test zero h = refl
 each-allTo test (suc n) h = both-and _ _ (each-allTo test n (λ i l. h i (omega arith))) (h n (omega arith))
+
+-- ---- sums compared
+
+pub sumTo-below : (f g : ℕ → ℕ) (n : ℕ) → ((i : ℕ) → i < n → f i ≤ g i) → sumTo f n ≤ sumTo g n
+unfolding sumTo
+sumTo-below f g zero h = omega arith
+sumTo-below f g (suc n) h = omega (arith, sumTo-below f g n (λ i l. h i (omega arith)), h n (omega arith))
+
+pub sumTo-most : (f : ℕ → ℕ) (k n : ℕ) → ((i : ℕ) → i < n → f i ≤ k) → sumTo f n ≤ k * n
+unfolding sumTo
+sumTo-most f k zero h = omega arith
+sumTo-most f k (suc n) h = omega (arith, mul-suc k n, sumTo-most f k n (λ i l. h i (omega arith)), h n (omega arith))
+
+-- over fewer numbers
+pub sumTo-rises : (f : ℕ → ℕ) (m n : ℕ) → m ≤ n → sumTo f m ≤ sumTo f n
+unfolding sumTo
+sumTo-rises f m zero h = let e : m ≡ 0 = omega arith in rw e (omega arith)
+sumTo-rises f m (suc n) h =
+    elim (decLt m (suc n)) [ yes l ↦ omega (arith, sumTo-rises f m n (omega arith)) | no l ↦ let e : m ≡ suc n = omega arith in rw e (omega arith) ]
 
 -- ---- only
 

@@ -79,3 +79,8 @@ pub first-cong : (f g : ℕ → ℕ) (n : ℕ) → ((i : ℕ) → i < n → f i 
 unfolding first
 first-cong f g zero h = refl
 first-cong f g (suc n) h = rw (first-cong f g n (λ i l. h i (omega arith)), h n (omega arith))
+
+pub none-first : (fault : ℕ → ℕ) (n : ℕ) → ((i : ℕ) → i < n → fault i ≡ 0) → first fault n ≡ 0
+unfolding first
+none-first fault zero h = refl
+none-first fault (suc n) h = none-orElse _ _ (none-first fault n (λ i l. h i (omega arith))) (h n (omega arith))

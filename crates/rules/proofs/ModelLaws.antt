@@ -1,20 +1,26 @@
 -- Laws of the model: what the tables hold.
-use Prim.Native.Nat.{ℕ, zero, suc, _+_, _-_, _*_, _/_, _%_, _<_, _≤_}
+use Prim.Native.Nat.{ℕ, zero, suc, _+_, _-_, _*_, _/_, _%_, _<_, _≤_, min}
 use mathlib.Core.Path.{_≡_, refl, sym, ap, _∙_}
 use mathlib.Core.List.{List}
 use native.Mathlib.Decide.{decLt}
 use native.Mathlib.Nat.{div-le-of-le-mul, div-eq-of-lt, div-zero}
 use native.Mathlib.Omega.{arith}
+use borrow.Author.Tests.{le-leb, lt-leb}
 use lib.Dec.{leb}
 use lib.ListN.{length, List·getD-eq-default}
 use Rattle.basics.specs.Counting.{sumTo, only}
 use Rattle.basics.specs.Tables.{cell, cells}
+use Rattle.basics.proofs.CountLaws.{sumTo-below, sumTo-rises}
 use Rattle.basics.proofs.TableLaws.{length-cells, cell-cells, cell-unused, cells-cong}
 use Rattle.sheets.specs.Limits.{instCells, opCells, kindCount, pairCells}
 use Rattle.sheets.specs.declared.Job.{Job}
 use Rattle.rules.specs.Model.{behind, typeAt, typesIn, typesOf, spanOf, roundedUp, stepsAt, rowAt, rowTable, timingIn, unitCells, unitAt, unitTable, tablesOf}
 use Rattle.rules.specs.declared.Tables.{Tables}
 use Rattle.rules.specs.declared.Timing.{Timing}
+
+sumTo-suc : (f : ℕ → ℕ) (n : ℕ) → sumTo f (suc n) ≡ sumTo f n + f n
+unfolding sumTo
+sumTo-suc f n = refl
 
 pub behind-is : (copies : List ℕ) (i y : ℕ) → behind copies i y ≡ only (leb (sumTo (cell copies) y + cell copies y) i) 1
 unfolding behind sumTo
@@ -23,6 +29,48 @@ behind-is copies i y = refl
 pub types-counted : (types copies : List ℕ) (m : ℕ) → types ≡ typesIn copies m → instCells ≡ length types
 unfolding typesIn
 types-counted types copies m e = sym (ap length e ∙ length-cells (typeAt copies m) instCells instCells)
+
+-- ---- instances are numbered type by type
+
+behind-rises : (copies : List ℕ) (i k y : ℕ) → i ≤ k → behind copies i y ≤ behind copies k y
+unfolding behind only
+behind-rises copies i k y h =
+    elim (decLt i (sumTo (cell copies) (suc y))) [ yes l ↦ rw (lt-leb (sumTo (cell copies) (suc y)) i l) (omega arith)
+      | no l ↦ rw (le-leb (sumTo (cell copies) (suc y)) i (omega arith), le-leb (sumTo (cell copies) (suc y)) k (omega arith)) (omega arith) ]
+
+type-rises : (copies : List ℕ) (m i k : ℕ) → i ≤ k → typeAt copies m i ≤ typeAt copies m k
+unfolding typeAt
+type-rises copies m i k h = sumTo-below (behind copies i) (behind copies k) m (λ y l. behind-rises copies i k y h)
+
+type-cell : (copies : List ℕ) (m i : ℕ) → i < instCells → cell (typesIn copies m) i ≡ typeAt copies m i
+unfolding typesIn
+type-cell copies m i l = cell-cells (typeAt copies m) instCells instCells i l (omega arith)
+
+pub types-rise : (copies : List ℕ) (m i k : ℕ) → i ≤ k → k < instCells → cell (typesIn copies m) i ≤ cell (typesIn copies m) k
+types-rise copies m i k h l = rw (type-cell copies m i (omega arith), type-cell copies m k l) (type-rises copies m i k h)
+
+-- copy c of type y comes behind the copies of the types before it
+module _ (copies : List ℕ) (y c : ℕ) (few : c < cell copies y) where
+  abbrev place : ℕ
+  place = sumTo (cell copies) y + c
+
+  behind-before : (z : ℕ) → z < y → behind copies place z ≡ 1
+  unfolding behind only
+  behind-before z l = rw (le-leb (sumTo (cell copies) (suc z)) place (omega (arith, sumTo-rises (cell copies) (suc z) y l)))
+
+  behind-after : (z : ℕ) → y ≤ z → behind copies place z ≡ 0
+  unfolding behind only
+  behind-after z l = rw (lt-leb (sumTo (cell copies) (suc z)) place (omega (arith, sumTo-rises (cell copies) (suc y) (suc z) (omega arith), sumTo-suc (cell copies) y)))
+
+  behind-count : (m : ℕ) → sumTo (behind copies place) m ≡ min m y
+  unfolding sumTo
+  behind-count zero = omega arith
+  behind-count (suc m) =
+      elim (decLt m y) [ yes l ↦ omega (arith, behind-count m, behind-before m l) | no l ↦ omega (arith, behind-count m, behind-after m (omega arith)) ]
+
+  pub type-of-copy : (m : ℕ) → y < m → place < instCells → cell (typesIn copies m) place ≡ y
+  unfolding typeAt
+  type-of-copy m l q = type-cell copies m place q ∙ behind-count m ∙ (omega arith)
 
 -- ---- a quotient rounded up
 

@@ -1,13 +1,19 @@
--- The rules of a plan as a person reads them: `Meets job plan` has a field for each.
+-- The rules of a plan as a person reads them: `Meets job plan` has a field for each. `Passes` is what a pass of the judge means.
 use Prim.Native.Nat.{ℕ, _+_, _-_, _<_, _≤_}
 use mathlib.Core.Path.{_≡_}
 use mathlib.Core.Logic.{_⊎_}
 use mathlib.Core.List.{List, [], _∷_}
 use lib.ListN.{length}
 use Rattle.basics.specs.Tables.{cell}
+use Rattle.sheets.specs.JobSheet.{readJob}
+use Rattle.sheets.specs.PlanSheet.{readPlan}
 use Rattle.sheets.specs.declared.Job.{Job}
 use Rattle.sheets.specs.declared.Plan.{Plan}
+use Rattle.sheets.specs.declared.Reading.the-variants.{Read}
 use Rattle.rules.specs.Model.{instCount, typeOf, timeOf, delayOf, spacingOf}
+use Rattle.rules.specs.Judge.{planCost}
+
+-- ---- runs
 
 -- a link of the job leads from a to b
 pub record Link (j : Job) (a b : ℕ) : Type 0 where
@@ -21,6 +27,24 @@ abbrev pub Joined : Job → List ℕ → Type 0
 Joined j [] = Unit {0}
 Joined j (a ∷ []) = Unit {0}
 Joined j (a ∷ b ∷ run) = Link j a b × Joined j (b ∷ run)
+
+-- all of them start in step s
+abbrev pub AllIn : (ℕ → ℕ) → ℕ → List ℕ → Type 0
+AllIn start s [] = Unit {0}
+AllIn start s (o ∷ run) = (start o ≡ s) × AllIn start s run
+
+-- their times, plus one wire for each link
+abbrev pub runTotal : ℕ → (ℕ → ℕ) → List ℕ → ℕ
+runTotal wire time [] = 0
+runTotal wire time (a ∷ []) = time a
+runTotal wire time (a ∷ b ∷ run) = time a + wire + runTotal wire time (b ∷ run)
+
+-- every run of two or more that starts in one step is within the clock (steps are numbered from 1)
+unfoldable pub RunsFit : Job → (ℕ → ℕ) → (ℕ → ℕ) → Type 0
+RunsFit j start time =
+    (s : ℕ) (run : List ℕ) → 1 ≤ s → 2 ≤ length run → Joined j run → AllIn start s run → runTotal (j .wire) time run ≤ j .clock
+
+-- ---- the rules
 
 module _ (j : Job) (p : Plan) where
   abbrev pub Selected : ℕ → Type 0
@@ -42,17 +66,6 @@ module _ (j : Job) (p : Plan) where
   abbrev pub spacing : ℕ → ℕ
   spacing o = spacingOf j o (inst o)
 
-  -- every operation of the run starts in step s
-  abbrev pub AllIn : ℕ → List ℕ → Type 0
-  AllIn s [] = Unit {0}
-  AllIn s (o ∷ run) = (start o ≡ s) × AllIn s run
-
-  -- the times of a run, plus one wire for each link
-  abbrev pub runTotal : List ℕ → ℕ
-  runTotal [] = 0
-  runTotal (a ∷ []) = time a
-  runTotal (a ∷ b ∷ run) = time a + j .wire + runTotal (b ∷ run)
-
   pub record Row (o : ℕ) : Type 0 where
     pub instance : inst o < instCount j
     pub able : 0 < time o
@@ -67,9 +80,19 @@ module _ (j : Job) (p : Plan) where
     -- within a type no selected instance precedes an unselected one
     pub order : (i k : ℕ) → i < k → k < instCount j → typeOf j i ≡ typeOf j k → Selected i → Selected k
     pub rows : (o : ℕ) → o < j .n → Row o
+    -- a link's second operation starts when the first has ended, or both start together and both delays are 1
     pub precedence : (a b : ℕ) → Link j a b → (start a + delay a ≤ start b) ⊎ ((start a ≡ start b) × (delay a ≡ 1) × (delay b ≡ 1))
-    -- two operations on one instance, a not the later
+    -- two operations on one instance have different starts, and the later exceeds the earlier by at least its own spacing
     pub resource : (a b : ℕ) → a < j .n → b < j .n → (a ≡ b → ⊥) → inst a ≡ inst b → start a ≤ start b
         → (start a < start b) × (start a + spacing b ≤ start b)
-    -- operations joined by successive links and all started in one step, two or more
-    pub chains : (s : ℕ) (run : List ℕ) → 2 ≤ length run → Joined j run → AllIn s run → runTotal run ≤ j .clock
+    pub chains : RunsFit j start time
+
+-- ---- a judgement: the papers are read, the plan meets the rules, and c is the cost of its selection
+
+pub record Passes (job plan : List ℕ) (c : ℕ) : Type 0 where
+  pub asJob : Job
+  pub asPlan : Plan
+  pub jobRead : readJob job ≡ record { answer = Read; job = asJob }
+  pub planRead : readPlan plan ≡ record { answer = Read; plan = asPlan }
+  pub meets : Meets asJob asPlan
+  pub cost : c ≡ planCost asJob asPlan

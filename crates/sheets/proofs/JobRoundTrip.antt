@@ -330,6 +330,12 @@ job-written-read s j hs e =
     let r = read-job s j e in
     rw (r .1) (sheet-again s (r .0) hs, record-none s (r .0))
 
+-- what a job that is read keeps
+pub job-sound : (s : List ℕ) (j : Job) → readJob s ≡ record { answer = Read; job = j } → JobSound j
+job-sound s j e =
+    let r = read-job s j e in
+    rw (r .1) (none-record (jobIn s) (record-none s (r .0)))
+
 -- ---- the same of the entries' promises
 
 -- what the writer has written is read as the record
