@@ -1,5 +1,5 @@
 -- The judge passes a plan with a cost exactly when the papers are read, the plan meets the rules, and that is its cost:
--- `judge-passes`.
+-- `judge-passes`. No cost is above the greatest: `judge-cost`.
 use Prim.Native.Nat.{ℕ, zero, suc, _+_, _-_, _*_, _^_, _≤_, _<_}
 use mathlib.Core.Path.{_≡_, refl, sym, ap, subst, _∙_}
 use mathlib.Core.Bool.{Bool, true, _&&_}
@@ -12,7 +12,7 @@ use Rattle.basics.specs.Counting.{allTo}
 use Rattle.basics.specs.Faults.{_orElse_, faultUnless, first}
 use Rattle.basics.specs.Numbers.{countsDiffer, orderBroken, precedenceBroken, resourceBroken, chainBroken, paperPlan}
 use Rattle.basics.specs.Tables.{cell, cells}
-use Rattle.basics.proofs.CountLaws.{both-and, allTo-each, each-allTo}
+use Rattle.basics.proofs.CountLaws.{both-and, allTo-each, each-allTo, sumTo-most, only-small}
 use Rattle.basics.proofs.FaultLaws.{orElse-none, none-orElse, unless-none, none-unless, first-none, none-first}
 use Rattle.basics.proofs.TableLaws.{cell-cells}
 use Rattle.sheets.specs.Limits.{opCells, instCells}
@@ -22,16 +22,16 @@ use Rattle.sheets.specs.declared.Job.{Job}
 use Rattle.sheets.specs.declared.Plan.{Plan}
 use Rattle.sheets.specs.declared.Reading.{Reading}
 use Rattle.sheets.specs.declared.Reading.the-variants.{Read, Refused as Unread}
-use Rattle.sheets.proofs.JobRoundTrip.{job-sound}
+use Rattle.sheets.proofs.JobRoundTrip.{job-sound, job-costs}
 use Rattle.sheets.proofs.RecordLaws.{JobSound}
 use Rattle.rules.specs.Model.{instCount, typesOf, timeOf, delayOf, spacingOf, rowAt, rowTable, timingIn, timingOf}
-use Rattle.rules.specs.Selection.{selected, orderOk}
+use Rattle.rules.specs.Selection.{selected, orderOk, costAt, selectionCost}
 use Rattle.rules.specs.declared.Judged.{Judged}
 use Rattle.rules.specs.declared.Judged.the-variants.{Passed, Refused}
 use Rattle.rules.specs.declared.Timing.{Timing}
 use Rattle.rules.specs.Rules.{rowFault, rowFaultAt, rowsFault, joins, placed, linkOk, precedenceOk, resourceOk, chainsOk}
 use Rattle.rules.specs.Judge.{countsFault, placingFault, judgeFault, planCost, passOr, judged, ifRead, judge}
-use Rattle.rules.specs.Meets.{Link, Joined, AllIn, runTotal, RunsFit, start, inst, time, delay, spacing, Row, Meets, Passes}
+use Rattle.rules.specs.Meets.{Link, Joined, AllIn, runTotal, RunsFit, start, inst, time, delay, spacing, Row, Meets, Passes, maxCost}
 use Rattle.rules.proofs.ChainRule.{chain-rule}
 use Rattle.rules.proofs.JudgeLaws.{counts-agree}
 use Rattle.rules.proofs.ModelLaws.{types-rise}
@@ -248,3 +248,14 @@ module _ (job plan : List ℕ) (c : ℕ) where
 
   pub judge-passes : (judge job plan ≡ Passed c) ↔ Passes job plan c
   judge-passes = (pass-meets, meets-pass)
+
+  -- no plan costs more than every instance at the greatest cost
+  pub judge-cost : judge job plan ≡ Passed c → c ≤ maxCost
+  unfolding planCost selectionCost costAt
+  judge-cost e =
+      let m = pass-meets e in
+      let j = m .asJob in
+      let f : ℕ → ℕ = costAt (j .costs) (typesOf j) (selected (m .asPlan .selection)) in
+      let most : (i : ℕ) → i < instCount j → f i ≤ 65535 =
+      λ i l. omega (arith, only-small (selected (m .asPlan .selection) i) (cell (j .costs) (cell (typesOf j) i)), job-costs job j (m .jobRead) (cell (typesOf j) i)) in
+      omega (arith, m .cost, sumTo-most f 65535 (instCount j) most, job-sound job j (m .jobRead) .insts)

@@ -96,3 +96,7 @@ pub record Passes (job plan : List ℕ) (c : ℕ) : Type 0 where
   pub planRead : readPlan plan ≡ record { answer = Read; plan = asPlan }
   pub meets : Meets asJob asPlan
   pub cost : c ≡ planCost asJob asPlan
+
+-- the greatest cost: every instance at the greatest cost of a type
+abbrev pub maxCost : ℕ
+maxCost = 1048560

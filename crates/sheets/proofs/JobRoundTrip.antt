@@ -1,9 +1,10 @@
 -- Reading and writing a job's sheet undo each other: `job-read-written`, `job-written-read`; and so of the entries'
 -- promises: `job-read-output`, `job-write-input`.
-use Prim.Native.Nat.{ℕ, zero, suc, _+_, _*_, _/_, _%_, _≤_, _<_}
+use Prim.Native.Nat.{ℕ, zero, suc, _+_, _*_, _/_, _%_, _^_, _≤_, _<_}
 use mathlib.Core.Path.{_≡_, refl, sym, ap, subst, _∙_}
 use mathlib.Core.Bool.{true}
 use mathlib.Core.List.{List, _++_}
+use native.Mathlib.Decide.{decLt}
 use native.Mathlib.Omega.{arith}
 use borrow.Author.Tests.{le-leb}
 use lib.ListN.{length, take, drop}
@@ -12,7 +13,7 @@ use Rattle.basics.specs.Numbers.{paperJob, recordBroken}
 use Rattle.basics.specs.Tables.{cell, cells}
 use Rattle.basics.proofs.CountLaws.{both-and}
 use Rattle.basics.proofs.FaultLaws.{orElse-none, none-orElse, none-unless, orElse-go}
-use Rattle.basics.proofs.TableLaws.{cell-cells, cells-cong, cells-blank, blank-cells, each-within}
+use Rattle.basics.proofs.TableLaws.{cell-cells, cell-unused, cells-cong, cells-blank, blank-cells, each-within}
 use Rattle.bits.specs.Bits.{Bytes, field}
 use Rattle.bits.specs.Sheet.{Field, total, bytesFor, fill, pack, many}
 use Rattle.bits.proofs.FieldLaws.{field-lt}
@@ -335,6 +336,15 @@ pub job-sound : (s : List ℕ) (j : Job) → readJob s ≡ record { answer = Rea
 job-sound s j e =
     let r = read-job s j e in
     rw (r .1) (none-record (jobIn s) (record-none s (r .0)))
+
+pub job-costs : (s : List ℕ) (j : Job) → readJob s ≡ record { answer = Read; job = j } → (y : ℕ) → cell (j .costs) y < 2 ^ costBits
+unfolding jobOf
+job-costs s j e y =
+    let r = read-job s j e in
+    let at : ℕ = typesAt (nIn s) (eIn s) in
+    let few = head-counts s (job-head s (r .0)) .types in
+    rw (r .1) (elim (decLt y (mIn s)) [ yes l ↦ rw (cell-cells (columnAt s at typeBits costBits) (mIn s) typeCells y l few) (field-lt s (at + typeBits * y) costBits)
+      | no l ↦ rw (cell-unused (columnAt s at typeBits costBits) (mIn s) typeCells y (omega arith)) (omega arith) ])
 
 -- ---- the same of the entries' promises
 
