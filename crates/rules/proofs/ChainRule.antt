@@ -92,8 +92,10 @@ module _ (j : Job) (sound : JobSound j) (starts times : List ℕ) where
   grows : (i k o : ℕ) → i ≤ k → k ≤ j .e → cell (table i) o ≤ cell (table k) o
   grows i zero o h q = let e : i ≡ 0 = omega arith in rw e (omega arith)
   grows i (suc k) o h q =
-      elim (decLt i (suc k)) [ yes l ↦ omega (arith, grows i k o (omega arith) (omega arith), grows-once k o q)
-        | no l ↦ let e : i ≡ suc k = omega arith in rw e (omega arith) ]
+      elim (decLt i (suc k)) [
+        | yes l ↦ omega (arith, grows i k o (omega arith) (omega arith), grows-once k o q)
+        | no l ↦ let e : i ≡ suc k = omega arith in rw e (omega arith)
+      ]
 
   -- ---- where the test holds, every run is within the clock
 
@@ -106,8 +108,10 @@ module _ (j : Job) (sound : JobSound j) (starts times : List ℕ) where
   -- a run's next link comes behind its first
   next : (a b d : ℕ) (n : Link j a b) (m : Link j b d) → n .number < m .number
   next a b d n m =
-      elim (decLt (n .number) (m .number)) [ yes h ↦ h
-        | no h ↦ absurd (omega (arith, sound .ascend (m .number) (n .number) (omega arith) (n .below), sound .links (n .number) (n .below) .0, n .leaves, n .enters, m .leaves)) ]
+      elim (decLt (n .number) (m .number)) [
+        | yes h ↦ h
+        | no h ↦ absurd (omega (arith, sound .ascend (m .number) (n .number) (omega arith) (n .below), sound .links (n .number) (n .below) .0, n .leaves, n .enters, m .leaves))
+      ]
 
   -- a run to whose first operation v was brought
   run-fits : chainsOk (j .from) (j .to) (j .e) (j .wire) (j .clock) starts times ≡ true → (s : ℕ) → 1 ≤ s → (run : List ℕ) (a b v : ℕ) (k : Joined j (a ∷ b ∷ run)) → AllIn start s (a ∷ b ∷ run)
@@ -133,8 +137,10 @@ module _ (j : Job) (sound : JobSound j) (starts times : List ℕ) where
   nothing : (o : ℕ) → cell (table 0) o ≡ 0
   unfolding broughtBy
   nothing o =
-      elim (decLt o opCells) [ yes l ↦ getD-replicate {A = ℕ} opCells o 0 0 l
-        | no l ↦ List·getD-eq-default {A = ℕ} (replicate opCells 0) 0 {n = o} (omega (arith, length-replicate {A = ℕ} opCells 0)) ]
+      elim (decLt o opCells) [
+        | yes l ↦ getD-replicate {A = ℕ} opCells o 0 0 l
+        | no l ↦ List·getD-eq-default {A = ℕ} (replicate opCells 0) 0 {n = o} (omega (arith, length-replicate {A = ℕ} opCells 0))
+      ]
 
   -- all that the first l links bring to o is within the clock, with any run on from o
   abbrev BringsFit : ℕ → ℕ → Type 0

@@ -6,13 +6,13 @@ use mathlib.Core.Bool.{Bool, true, _&&_}
 use mathlib.Core.List.{List, [], _∷_}
 use mathlib.Core.Logic.{_⊎_, _↔_}
 use native.Mathlib.Omega.{arith}
-use borrow.Author.Tests.{eqb-true, eq-eqb, lt-ltb}
+use borrow.Author.Tests.{eqb-true, ltb-true, eq-eqb, lt-ltb}
 use lib.Dec.{eqb, lit<}
 use Rattle.basics.specs.Counting.{allTo}
 use Rattle.basics.specs.Faults.{_orElse_, faultUnless, first}
 use Rattle.basics.specs.Numbers.{countsDiffer, orderBroken, precedenceBroken, resourceBroken, chainBroken, paperPlan}
 use Rattle.basics.specs.Tables.{cell, cells}
-use Rattle.basics.proofs.CountLaws.{both-and, allTo-each, each-allTo, sumTo-most, only-small}
+use Rattle.basics.proofs.CountLaws.{and-both, both-and, allTo-each, each-allTo, sumTo-most, only-small}
 use Rattle.basics.proofs.FaultLaws.{orElse-none, none-orElse, unless-none, none-unless, first-none, none-first}
 use Rattle.basics.proofs.TableLaws.{cell-cells}
 use Rattle.sheets.specs.Limits.{opCells, instCells}
@@ -131,14 +131,14 @@ module _ (j : Job) (p : Plan) (sound : JobSound j) where
 
   says-precedence : ((a b : ℕ) → Link j a b → (start j p a + delay j p a ≤ start j p b) ⊎ ((start j p a ≡ start j p b) × (delay j p a ≡ 1) × (delay j p b ≡ 1)))
       → precedenceOk (j .from) (j .to) (j .e) (p .starts) (timing .delays) ≡ true
-  unfolding precedenceOk linkOk timingIn
+  unfolding precedenceOk linkOk joins timingIn
   says-precedence h =
       each-allTo (linkOk (j .from) (j .to) (p .starts) (timing .delays)) (j .e) (λ l q.
       let w = sound .links l q in
       let a : ℕ = cell (j .from) l in
       let b : ℕ = cell (j .to) l in
       where-asked (joins (j .from) (j .to) (p .starts) l) _ (λ both.
-      says-precedes _ _ _ _ (rw (row-cell (delayOf j) a (omega arith), row-cell (delayOf j) b (w .1)) (h a b (record { number = l; below = q; leaves = refl; enters = refl })))))
+      says-precedes _ _ _ _ (ltb-true 0 (start j p a) (and-both (placed (p .starts) a) (placed (p .starts) b) both .0)) (rw (row-cell (delayOf j) a (omega arith), row-cell (delayOf j) b (w .1)) (h a b (record { number = l; below = q; leaves = refl; enters = refl })))))
 
   says-resource-meets : ((o : ℕ) → o < j .n → 1 ≤ start j p o)
       → ((a b : ℕ) → a < j .n → b < j .n → (a ≡ b → ⊥) → inst j p a ≡ inst j p b → start j p a ≤ start j p b → (start j p a < start j p b) × (start j p a + spacing j p b ≤ start j p b))
@@ -190,11 +190,12 @@ module _ (j : Job) (p : Plan) (sound : JobSound j) where
   meets-none : Meets j p → judgeFault j p ≡ 0
   meets-none m =
       whole (m .operations) (m .instances) (
-      says-order (typesOf j) (p .selection) (instCount j) (m .order),
-      says-row (m .rows),
-      says-precedence (m .precedence),
-      says-resource-meets (λ o l. m .rows o l .begins) (m .resource),
-      chain-rule j sound (p .starts) (timing .times) .1 (runs-same (time j p) (λ o. cell (timing .times) o) (λ o l. sym (times-same o l)) (m .chains)))
+        says-order (typesOf j) (p .selection) (instCount j) (m .order),
+        says-row (m .rows),
+        says-precedence (m .precedence),
+        says-resource-meets (λ o l. m .rows o l .begins) (m .resource),
+        chain-rule j sound (p .starts) (timing .times) .1 (runs-same (time j p) (λ o. cell (timing .times) o) (λ o l. sym (times-same o l)) (m .chains)),
+      )
 
   pub none-exactly : (judgeFault j p ≡ 0) ↔ Meets j p
   none-exactly = (none-meets, meets-none)

@@ -35,8 +35,10 @@ types-counted types copies m e = sym (ap length e ∙ length-cells (typeAt copie
 behind-rises : (copies : List ℕ) (i k y : ℕ) → i ≤ k → behind copies i y ≤ behind copies k y
 unfolding behind only
 behind-rises copies i k y h =
-    elim (decLt i (sumTo (cell copies) (suc y))) [ yes l ↦ rw (lt-leb (sumTo (cell copies) (suc y)) i l) (omega arith)
-      | no l ↦ rw (le-leb (sumTo (cell copies) (suc y)) i (omega arith), le-leb (sumTo (cell copies) (suc y)) k (omega arith)) (omega arith) ]
+    elim (decLt i (sumTo (cell copies) (suc y))) [
+      | yes l ↦ rw (lt-leb (sumTo (cell copies) (suc y)) i l) (omega arith)
+      | no l ↦ rw (le-leb (sumTo (cell copies) (suc y)) i (omega arith), le-leb (sumTo (cell copies) (suc y)) k (omega arith)) (omega arith)
+    ]
 
 type-rises : (copies : List ℕ) (m i k : ℕ) → i ≤ k → typeAt copies m i ≤ typeAt copies m k
 unfolding typeAt

@@ -15,7 +15,7 @@ use Rattle.basics.specs.Tables.{cell}
 use Rattle.basics.proofs.CountLaws.{and-both, both-and, either, allTo-each, each-allTo}
 use Rattle.basics.proofs.FaultLaws.{orElse-none, none-orElse, unless-none, none-unless}
 use Rattle.rules.specs.Selection.{selected, orderAt, orderOk}
-use Rattle.rules.specs.Rules.{rowFault, placed, joins, precedes, linkOk, precedenceOk, apart, shareOk, besideOk, resourceOk}
+use Rattle.rules.specs.Rules.{finish, rowFault, placed, joins, precedes, linkOk, precedenceOk, apart, shareOk, besideOk, resourceOk}
 
 -- ---- tests
 
@@ -64,17 +64,23 @@ module _ (types selection : List ℕ) (k : ℕ) where
   order-says rise h i (suc l) il lk e s =
       let n : neighbours l ≡ true = allTo-each (orderAt types selection) k h (suc l) lk in
       let q : cell types l ≡ cell types (suc l) = omega (arith, rise i l (omega arith) (omega arith), rise l (suc l) (omega arith) lk) in
-      elim (decLt i l) [ yes w ↦ next-says l n q (order-says rise h i l w (omega arith) (e ∙ sym q) s)
-        | no w ↦ let z : i ≡ l = omega arith in next-says l n q (rw z at s) ]
+      elim (decLt i l) [
+        | yes w ↦ next-says l n q (order-says rise h i l w (omega arith) (e ∙ sym q) s)
+        | no w ↦ let z : i ≡ l = omega arith in next-says l n q (rw z at s)
+      ]
 
   says-next : Ordered → (i : ℕ) → i < k → orderAt types selection i ≡ true
   unfolding orderAt
   says-next h zero l = refl
   says-next h (suc i) l =
-      elim (ℕ-discrete (cell types i) (cell types (suc i))) [ yes e ↦
-        elim (ℕ-discrete (cell selection i) 1) [ yes s ↦ either-right (not (eqb (cell types i) (cell types (suc i))) || not (selected selection i)) _ (eq-eqb (cell selection (suc i)) 1 (h i (suc i) (omega arith) l e s))
-          | no s ↦ either-left (not (eqb (cell types i) (cell types (suc i))) || not (selected selection i)) _ (either-right (not (eqb (cell types i) (cell types (suc i)))) _ (not-off (ne-eqb (cell selection i) 1 s))) ]
-        | no e ↦ either-left (not (eqb (cell types i) (cell types (suc i))) || not (selected selection i)) _ (either-left _ _ (not-off (ne-eqb (cell types i) (cell types (suc i)) e))) ]
+      elim (ℕ-discrete (cell types i) (cell types (suc i))) [
+        | yes e ↦
+            elim (ℕ-discrete (cell selection i) 1) [
+              | yes s ↦ either-right (not (eqb (cell types i) (cell types (suc i))) || not (selected selection i)) _ (eq-eqb (cell selection (suc i)) 1 (h i (suc i) (omega arith) l e s))
+              | no s ↦ either-left (not (eqb (cell types i) (cell types (suc i))) || not (selected selection i)) _ (either-right (not (eqb (cell types i) (cell types (suc i)))) _ (not-off (ne-eqb (cell selection i) 1 s)))
+            ]
+        | no e ↦ either-left (not (eqb (cell types i) (cell types (suc i))) || not (selected selection i)) _ (either-left _ _ (not-off (ne-eqb (cell types i) (cell types (suc i)) e)))
+      ]
 
   pub says-order : Ordered → orderOk types selection k ≡ true
   unfolding orderOk
@@ -91,46 +97,46 @@ pub record RowOk (k t inst time : ℕ) (chosen : Bool) (start delay : ℕ) : Typ
 
 module _ (k t inst time : ℕ) (chosen : Bool) (start delay : ℕ) where
   pub none-row : rowFault k t inst time chosen start delay ≡ 0 → RowOk k t inst time chosen start delay
-  unfolding rowFault
+  unfolding rowFault finish
   none-row h =
       let a = orElse-none _ _ h in
       let b = orElse-none _ _ (a .1) in
       let d = orElse-none _ _ (b .1) in
-      let w = and-both (leb 1 start) (leb (start + delay) (t + 1)) (unless-none _ rowStep (lit< tt) (d .1)) in
+      let w = and-both (leb 1 start) (leb (finish start delay) t) (unless-none _ rowStep (lit< tt) (d .1)) in
       record {
         instance = ltb-true inst k (unless-none _ rowInstance (lit< tt) (a .0));
         able = ltb-true 0 time (unless-none _ rowKind (lit< tt) (b .0));
         selects = unless-none _ rowUnselected (lit< tt) (d .0);
         begins = leb-true 1 start (w .0);
-        ends = omega (arith, leb-true (start + delay) (t + 1) (w .1));
+        ends = leb-true (finish start delay) t (w .1);
       }
 
   pub row-none : RowOk k t inst time chosen start delay → rowFault k t inst time chosen start delay ≡ 0
-  unfolding rowFault
+  unfolding rowFault finish
   row-none h =
       none-orElse _ _ (none-unless _ rowInstance (lt-ltb inst k (h .instance)))
       (none-orElse _ _ (none-unless _ rowKind (lt-ltb 0 time (h .able)))
       (none-orElse _ _ (none-unless _ rowUnselected (h .selects))
-      (none-unless _ rowStep (both-and _ _ (le-leb 1 start (h .begins)) (le-leb (start + delay) (t + 1) (omega (arith, h .begins, h .ends)))))))
+      (none-unless _ rowStep (both-and _ _ (le-leb 1 start (h .begins)) (le-leb (finish start delay) t (h .ends))))))
 
 -- ---- precedence
 
 module _ (start delay start' delay' : ℕ) where
   pub precedes-says : precedes start delay start' delay' ≡ true → (start + delay ≤ start') ⊎ ((start ≡ start') × (delay ≡ 1) × (delay' ≡ 1))
-  unfolding precedes
+  unfolding precedes finish
   precedes-says h =
-      ⊎-elim (λ a. inl (leb-true (start + delay) start' a))
+      ⊎-elim (λ a. inl (omega (arith, ltb-true (finish start delay) start' a)))
       (λ a.
       let b = and-both (eqb start start' && eqb delay 1) (eqb delay' 1) a in
       let d = and-both (eqb start start') (eqb delay 1) (b .0) in
       inr (eqb-true start start' (d .0), eqb-true delay 1 (d .1), eqb-true delay' 1 (b .1)))
-      (either (leb (start + delay) start') (eqb start start' && eqb delay 1 && eqb delay' 1) h)
+      (either (ltb (finish start delay) start') (eqb start start' && eqb delay 1 && eqb delay' 1) h)
 
-  pub says-precedes : (start + delay ≤ start') ⊎ ((start ≡ start') × (delay ≡ 1) × (delay' ≡ 1)) → precedes start delay start' delay' ≡ true
-  unfolding precedes
-  says-precedes h =
-      ⊎-elim (λ a. either-left _ _ (le-leb (start + delay) start' a))
-      (λ a. either-right (leb (start + delay) start') _ (both-and _ _ (both-and _ _ (eq-eqb start start' (a .0)) (eq-eqb delay 1 (a .1))) (eq-eqb delay' 1 (a .2)))) h
+  pub says-precedes : 1 ≤ start → (start + delay ≤ start') ⊎ ((start ≡ start') × (delay ≡ 1) × (delay' ≡ 1)) → precedes start delay start' delay' ≡ true
+  unfolding precedes finish
+  says-precedes z h =
+      ⊎-elim (λ a. either-left _ _ (lt-ltb (finish start delay) start' (omega arith)))
+      (λ a. either-right (ltb (finish start delay) start') _ (both-and _ _ (both-and _ _ (eq-eqb start start' (a .0)) (eq-eqb delay 1 (a .1))) (eq-eqb delay' 1 (a .2)))) h
 
 -- ---- resource: of two placed on one instance, the one that does not start later
 
@@ -157,9 +163,10 @@ module _ (starts insts spacings : List ℕ) (n : ℕ) (at : (o : ℕ) → o < n 
       let both : placed starts a && placed starts b ≡ true = both-and _ _ (lt-ltb 0 (start a) (at a la)) (lt-ltb 0 (start b) (at b lb)) in
       let one : cell insts a ≡ cell insts b → (first ≡ true) ⊎ (second ≡ true) =
       λ e. ⊎-elim (λ w. ⊎-elim (λ v. absurd (⊎-elim (not-both _ (eq-eqb (cell insts a) (cell insts b) e)) (not-both _ both) (either other unplaced v))) inl (either (other || unplaced) first w)) inr
-      (either (other || unplaced || first) second h) in
-      ((λ e l. ⊎-elim (λ w. apart-says _ _ _ w) (λ w. absurd (omega (arith, apart-says (start b) (start a) (cell spacings a) w .0))) (one e)),
-      (λ e l. ⊎-elim (λ w. absurd (omega (arith, apart-says (start a) (start b) (cell spacings b) w .0))) (λ w. apart-says _ _ _ w) (one (sym e))))
+      (either (other || unplaced || first) second h) in (
+        (λ e l. ⊎-elim (λ w. apart-says _ _ _ w) (λ w. absurd (omega (arith, apart-says (start b) (start a) (cell spacings a) w .0))) (one e)),
+        (λ e l. ⊎-elim (λ w. absurd (omega (arith, apart-says (start a) (start b) (cell spacings b) w .0))) (λ w. apart-says _ _ _ w) (one (sym e))),
+      )
 
   says-share : (a b : ℕ) → Apart a b → Apart b a → shareOk starts insts spacings b a ≡ true
   unfolding shareOk
@@ -167,20 +174,26 @@ module _ (starts insts spacings : List ℕ) (n : ℕ) (at : (o : ℕ) → o < n 
       let first : Bool = apart (start a) (start b) (cell spacings b) in
       let other : Bool = not (eqb (cell insts a) (cell insts b)) in
       let unplaced : Bool = not (placed starts a && placed starts b) in
-      elim (ℕ-discrete (cell insts a) (cell insts b)) [ yes e ↦
-        elim (decLt (start b) (start a)) [ yes l ↦
-          let w = q (sym e) (omega arith) in
-          either-right (other || unplaced || first) _ (says-apart (start b) (start a) (cell spacings a) (w .0) (w .1))
-          | no l ↦
-          let w = p e (omega arith) in
-          either-left (other || unplaced || first) _ (either-right (other || unplaced) first (says-apart (start a) (start b) (cell spacings b) (w .0) (w .1))) ]
-        | no e ↦ rw (ne-eqb (cell insts a) (cell insts b) e) ]
+      elim (ℕ-discrete (cell insts a) (cell insts b)) [
+        | yes e ↦
+            elim (decLt (start b) (start a)) [
+              | yes l ↦
+                  let w = q (sym e) (omega arith) in
+                  either-right (other || unplaced || first) _ (says-apart (start b) (start a) (cell spacings a) (w .0) (w .1))
+              | no l ↦
+                  let w = p e (omega arith) in
+                  either-left (other || unplaced || first) _ (either-right (other || unplaced) first (says-apart (start a) (start b) (cell spacings b) (w .0) (w .1)))
+            ]
+        | no e ↦ rw (ne-eqb (cell insts a) (cell insts b) e)
+      ]
 
   pub resource-says : resourceOk n starts insts spacings ≡ true → (a b : ℕ) → a < n → b < n → (a ≡ b → ⊥) → Apart a b
   unfolding resourceOk besideOk
   resource-says h a b la lb d =
-      elim (decLt a b) [ yes l ↦ share-says a b la lb (allTo-each (shareOk starts insts spacings b) b (allTo-each (besideOk starts insts spacings) n h b lb) a l) .0
-        | no l ↦ share-says b a lb la (allTo-each (shareOk starts insts spacings a) a (allTo-each (besideOk starts insts spacings) n h a la) b (omega (arith, d))) .1 ]
+      elim (decLt a b) [
+        | yes l ↦ share-says a b la lb (allTo-each (shareOk starts insts spacings b) b (allTo-each (besideOk starts insts spacings) n h b lb) a l) .0
+        | no l ↦ share-says b a lb la (allTo-each (shareOk starts insts spacings a) a (allTo-each (besideOk starts insts spacings) n h a la) b (omega (arith, d))) .1
+      ]
 
   pub says-resource : ((a b : ℕ) → a < n → b < n → (a ≡ b → ⊥) → Apart a b) → resourceOk n starts insts spacings ≡ true
   unfolding resourceOk besideOk

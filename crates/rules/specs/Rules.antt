@@ -1,7 +1,7 @@
 -- The rules on rows, precedence, resource and chain, each among the operations that are placed: `starts` and `insts` hold
 -- each operation's start and instance, start 0 is not placed, and `times`, `delays` and `spacings` are what each takes on its
 -- instance. Judge, walk and notes share them.
-use Prim.Native.Nat.{ℕ, zero, suc, _+_, _*_, _≤_, max}
+use Prim.Native.Nat.{ℕ, zero, suc, _+_, _-_, _*_, _≤_, max}
 use mathlib.Core.Bool.{Bool, true, false, not, _||_, _&&_}
 use mathlib.Core.List.{List}
 use lib.Dec.{ltb, leb, eqb}
@@ -13,15 +13,18 @@ use Rattle.basics.specs.Tables.{cell}
 use Rattle.sheets.specs.Limits.{opCells}
 use Rattle.rules.specs.Selection.{selected}
 
--- ---- row: instance below K, able to do the kind, selected; start at least 1, start + delay - 1 at most T
+-- the step in which an operation ends
+unfoldable pub finish : ℕ → ℕ → ℕ
+finish start delay = start + delay - 1
 
--- (in whole numbers: start + delay at most T + 1)
+-- ---- row: instance below K, able to do the kind, selected; start at least 1, finish at most T
+
 unfoldable pub rowFault : ℕ → ℕ → ℕ → ℕ → Bool → ℕ → ℕ → ℕ
 rowFault k t inst time chosen start delay =
     faultUnless (ltb inst k) rowInstance orElse
     faultUnless (ltb 0 time) rowKind orElse
     faultUnless chosen rowUnselected orElse
-    faultUnless (leb 1 start && leb (start + delay) (t + 1)) rowStep
+    faultUnless (leb 1 start && leb (finish start delay) t) rowStep
 
 -- the row of operation o, where `times` and `delays` are those of each on its instance
 unfoldable pub rowFaultAt : ℕ → ℕ → List ℕ → List ℕ → List ℕ → List ℕ → List ℕ → ℕ → ℕ
@@ -40,10 +43,10 @@ placed starts o = ltb 0 (cell starts o)
 unfoldable pub joins : List ℕ → List ℕ → List ℕ → ℕ → Bool
 joins from to starts l = placed starts (cell from l) && placed starts (cell to l)
 
--- ---- precedence: of a link (a, b), b starts when a has ended, or both start together and both delays are 1
+-- ---- precedence: of a link (a, b), b starts behind a's finish, or both start together and both delays are 1
 
 unfoldable pub precedes : ℕ → ℕ → ℕ → ℕ → Bool
-precedes start delay start' delay' = leb (start + delay) start' || (eqb start start' && eqb delay 1 && eqb delay' 1)
+precedes start delay start' delay' = ltb (finish start delay) start' || (eqb start start' && eqb delay 1 && eqb delay' 1)
 
 unfoldable pub linkOk : List ℕ → List ℕ → List ℕ → List ℕ → ℕ → Bool
 linkOk from to starts delays l =

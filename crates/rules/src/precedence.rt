@@ -1,6 +1,7 @@
 // The rule on links.
 ghost use mathlib.Core.Path.{_≡_};
 ghost use Rattle.rules.specs.Rules.{joins as joinsAt, precedes as precedesBy, linkOk, precedenceOk};
+use crate::rows::finish;
 use basics::cell;
 
 // Both ends of link l are placed.
@@ -12,13 +13,12 @@ pub fn joins<'a>(from: &'a [u16], to: &'a [u16], starts: &'a [u16], l: usize) ->
     (0 < cell(starts, a)) & (0 < cell(starts, b))
 }
 
-// An operation precedes another: the other (start2, delay2) starts when it has ended, or both start together and both
+// An operation precedes another: the other (start2, delay2) starts behind its finish, or both start together and both
 // delays are 1.
 pub fn precedes(start: u16, delay: u16, start2: u16, delay2: u16) -> bool
     ensures { λ r. ⌜ r ≡ precedesBy start delay start2 delay2 ⌝ }
 {
-    (start as u32 + delay as u32 <= start2 as u32)
-        | ((start == start2) & (delay == 1) & (delay2 == 1))
+    (finish(start, delay) < start2 as u32) | ((start == start2) & (delay == 1) & (delay2 == 1))
 }
 
 // Link l keeps precedence.

@@ -1,10 +1,18 @@
 // The rule on rows.
 ghost use mathlib.Core.Path.{_≡_};
-ghost use Rattle.rules.specs.Rules.{rowFault, rowsFault};
+ghost use Rattle.rules.specs.Rules.{finish as finishOf, rowFault, rowsFault};
 use crate::selection::selected;
 use basics::cell;
 use basics::fault_unless;
 use basics::or_else;
+
+// The step in which an operation ends.
+pub fn finish(start: u16, delay: u16) -> u32
+    ensures { λ r. ⌜ r ≡ finishOf start delay ⌝ }
+{
+    let next = start as u32 + delay as u32;
+    if next == 0 { 0 } else { next - 1 }
+}
 
 // A row among k instances with a deadline t: `time` and `delay` are the operation's on its instance, `chosen` says whether
 // that is selected.
@@ -22,8 +30,10 @@ pub fn row_fault(
     let instance = fault_unless((inst as usize) < k, basics::ROW_INSTANCE);
     let kind = fault_unless(0 < time, basics::ROW_KIND);
     let unselected = fault_unless(chosen, basics::ROW_UNSELECTED);
-    let finish = start as u32 + delay as u32;
-    let step = fault_unless((1 <= start) & (finish <= t as u32 + 1), basics::ROW_STEP);
+    let step = fault_unless(
+        (1 <= start) & (finish(start, delay) <= t as u32),
+        basics::ROW_STEP,
+    );
     or_else(instance, or_else(kind, or_else(unselected, step)))
 }
 

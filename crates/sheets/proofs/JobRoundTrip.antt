@@ -343,8 +343,10 @@ job-costs s j e y =
     let r = read-job s j e in
     let at : ℕ = typesAt (nIn s) (eIn s) in
     let few = head-counts s (job-head s (r .0)) .types in
-    rw (r .1) (elim (decLt y (mIn s)) [ yes l ↦ rw (cell-cells (columnAt s at typeBits costBits) (mIn s) typeCells y l few) (field-lt s (at + typeBits * y) costBits)
-      | no l ↦ rw (cell-unused (columnAt s at typeBits costBits) (mIn s) typeCells y (omega arith)) (omega arith) ])
+    rw (r .1) (elim (decLt y (mIn s)) [
+      | yes l ↦ rw (cell-cells (columnAt s at typeBits costBits) (mIn s) typeCells y l few) (field-lt s (at + typeBits * y) costBits)
+      | no l ↦ rw (cell-unused (columnAt s at typeBits costBits) (mIn s) typeCells y (omega arith)) (omega arith)
+    ])
 
 -- ---- the same of the entries' promises
 

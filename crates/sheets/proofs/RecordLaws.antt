@@ -37,12 +37,14 @@ rising : (from to : List ℕ) (e : ℕ) → ((i : ℕ) → i < e → ascends fro
 unfolding ascends
 rising from to e h i zero l q = let z : i ≡ 0 = omega arith in rw z (omega arith)
 rising from to e h i (suc k) l q =
-    elim (decLt i (suc k)) [ yes w ↦
-      let r = rising from to e h i k (omega arith) (omega arith) in
-      ⊎-elim (λ a. omega (arith, r, ltb-true (cell from k) (cell from (suc k)) a))
-      (λ a. omega (arith, r, eqb-true (cell from k) (cell from (suc k)) (and-both (eqb (cell from k) (cell from (suc k))) (ltb (cell to k) (cell to (suc k))) a .0)))
-      (either _ _ (h (suc k) q))
-      | no w ↦ let z : i ≡ suc k = omega arith in rw z (omega arith) ]
+    elim (decLt i (suc k)) [
+      | yes w ↦
+          let r = rising from to e h i k (omega arith) (omega arith) in
+          ⊎-elim (λ a. omega (arith, r, ltb-true (cell from k) (cell from (suc k)) a))
+          (λ a. omega (arith, r, eqb-true (cell from k) (cell from (suc k)) (and-both (eqb (cell from k) (cell from (suc k))) (ltb (cell to k) (cell to (suc k))) a .0)))
+          (either _ _ (h (suc k) q))
+      | no w ↦ let z : i ≡ suc k = omega arith in rw z (omega arith)
+    ]
 
 -- ---- a type without fault
 

@@ -23,8 +23,10 @@ abbrev μ-loop : tie.MeasureT-loop
 -- at first nothing has been brought
 zeros : (o : ℕ) → cell (replicate opCells 0) o ≤ 131072 * 0
 zeros o =
-    elim (decLt o opCells) [ yes h ↦ omega (arith, getD-replicate {A = ℕ} opCells o 0 0 h)
-      | no h ↦ omega (arith, List·getD-eq-default {A = ℕ} (replicate opCells 0) 0 {n = o} (omega (arith, length-replicate {A = ℕ} opCells 0))) ]
+    elim (decLt o opCells) [
+      | yes h ↦ omega (arith, getD-replicate {A = ℕ} opCells o 0 0 h)
+      | no h ↦ omega (arith, List·getD-eq-default {A = ℕ} (replicate opCells 0) 0 {n = o} (omega (arith, length-replicate {A = ℕ} opCells 0)))
+    ]
 
 loop-holds : tie.Need-loop-holds Inv-loop μ-loop
 unfolding broughtBy allTo

@@ -1,16 +1,15 @@
 -- The test is the definition.
-use mathlib.Core.Path.{refl}
-use native.Mathlib.Omega.{arith}
-use Rattle.rules.specs.Rules.{precedes}
+use borrow.Author.Needs.{needs}
+use Rattle.rules.specs.Rules.{finish, precedes}
 use Rattle.rules.proofs.precedence.precedes.Statement.{statement}
 use Rattle.rules.proofs.precedence.precedes.Tie as tie
 
-add-result : tie.Need-add-result
-add-result c = omega arith
+finish-requires : tie.Need-finish-requires
+finish-requires c κs = search needs
 
 returns : tie.Need-returns
 unfolding precedes
-returns c = refl
+returns c = simp (c .finish .ensures)
 
 pub precedes-spec : {M : Type 1} → statement M
-precedes-spec = tie.close (tie.spec add-result returns)
+precedes-spec = tie.close (tie.spec finish-requires returns)

@@ -1,6 +1,6 @@
 -- The faults join as the definition does.
 use borrow.Author.Needs.{needs}
-use Rattle.rules.specs.Rules.{rowFault}
+use Rattle.rules.specs.Rules.{finish, rowFault}
 use Rattle.rules.proofs.rows.row_fault.Statement.{statement}
 use Rattle.rules.proofs.rows.row_fault.Tie as tie
 
@@ -13,11 +13,8 @@ fault-unless-requires-2 c κs = search needs
 fault-unless-requires-3 : tie.Need-fault-unless-requires-3
 fault-unless-requires-3 c κs = search needs
 
-add-finish : tie.Need-add-finish
-add-finish c = search needs
-
-add-fault-unless : tie.Need-add-fault-unless
-add-fault-unless c = search needs
+finish-requires : tie.Need-finish-requires
+finish-requires c κs = search needs
 
 fault-unless-requires-4 : tie.Need-fault-unless-requires-4
 fault-unless-requires-4 c κs = search needs
@@ -33,7 +30,7 @@ or-else-requires-3 c κs = search needs
 
 returns : tie.Need-returns
 unfolding rowFault
-returns c = simp (c .or-else3 .ensures, c .before .or-else2 .ensures, c .before .before .or-else .ensures, c .before .before .before .fault-unless4 .ensures, c .before .before .before .before .fault-unless3 .ensures, c .before .before .before .before .before .fault-unless2 .ensures, c .before .before .before .before .before .before .fault-unless .ensures)
+returns c = simp (c .or-else3 .ensures, c .before .or-else2 .ensures, c .before .before .or-else .ensures, c .before .before .before .fault-unless4 .ensures, c .before .before .before .before .finish .ensures, c .before .before .before .before .before .fault-unless3 .ensures, c .before .before .before .before .before .before .fault-unless2 .ensures, c .before .before .before .before .before .before .before .fault-unless .ensures)
 
 pub row-fault-spec : {M : Type 1} → statement M
 row-fault-spec =
@@ -42,8 +39,7 @@ row-fault-spec =
     fault-unless-requires
     fault-unless-requires-2
     fault-unless-requires-3
-    add-finish
-    add-fault-unless
+    finish-requires
     fault-unless-requires-4
     or-else-requires
     or-else-requires-2
