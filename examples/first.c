@@ -1,4 +1,4 @@
-/* A first use of the library: document 01's job P is read, damaged, and written back. */
+/* A first use of the library: document 01's job P is read, damaged and written back, and plans for it are judged. */
 #include <stdio.h>
 #include <string.h>
 
@@ -10,12 +10,19 @@ static const uint8_t job_p[54] = {
     0x01, 0x68, 0x5a, 0x00, 0x00, 0x00, 0x00, 0x00, 0x00, 0x00, 0x00, 0x00, 0x00, 0x00, 0x00, 0x00, 0x00, 0x00,
 };
 
+/* Case 1: selection 0 1 1, rows (1,2) (2,2) (3,1). Case 4: selection 1 0 1. Case 5: units, and no operations. */
+static const uint8_t plan_1[6] = {0x21, 0x8d, 0x84, 0x84, 0x43, 0x10};
+static const uint8_t plan_4[6] = {0x21, 0x8e, 0x84, 0x84, 0x43, 0x10};
+static const uint8_t plan_5[3] = {0x20, 0x0d, 0x80};
+
 static void tell(const char *what, tolmupung_answer answer)
 {
     if (answer.outcome == TOLMUPUNG_REFUSED)
         printf("%-22s refused by %u, paper %u\n", what, answer.number, answer.paper);
     else if (answer.outcome == TOLMUPUNG_READ)
         printf("%-22s read\n", what);
+    else if (answer.outcome == TOLMUPUNG_PASSED)
+        printf("%-22s passed, cost %u\n", what, answer.cost);
     else
         printf("%-22s written, %u bytes\n", what, answer.length);
 }
@@ -42,5 +49,10 @@ int main(void)
     tell("into 53 bytes", tolmupung_write_job(read.job, sheet, 53));
     read.job.kinds[23] = 1; /* a cell that three operations do not use */
     tell("an unused cell set", tolmupung_write_job(read.job, sheet, sizeof sheet));
+
+    tell("plan of case 1", tolmupung_judge(job_p, sizeof job_p, plan_1, sizeof plan_1));
+    tell("other adder selected", tolmupung_judge(job_p, sizeof job_p, plan_4, sizeof plan_4));
+    tell("units, no operations", tolmupung_judge(job_p, sizeof job_p, plan_5, sizeof plan_5));
+    tell("no plan", tolmupung_judge(job_p, sizeof job_p, NULL, 0));
     return 0;
 }

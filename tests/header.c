@@ -1,4 +1,4 @@
-/* The header against the library: the records' layout, all four entries with every cell told apart, and NULL.
+/* The header against the library: the records' layout, every entry, the records' cells told apart, and NULL.
  * Compiled as C and as C++. It prints each check that fails, and gives status 1 if one did. */
 #include <stddef.h>
 #include <stdio.h>
@@ -91,6 +91,41 @@ static void plans(void)
           "a start of 32 is too wide");
 }
 
+/* Job and plan are told apart, and the cost comes back in its place. */
+static void judging(void)
+{
+    uint8_t sheet[TOLMUPUNG_JOB_BYTES], planned[TOLMUPUNG_PLAN_BYTES];
+    tolmupung_job job = some_job();
+    tolmupung_plan plan;
+    tolmupung_answer a, b, r;
+    int c;
+    job.e = 0, memset(job.from, 0, sizeof job.from), memset(job.to, 0, sizeof job.to);
+    job.clock = 1023, a = tolmupung_write_job(job, sheet, sizeof sheet);
+    memset(&plan, 0, sizeof plan);
+    plan.n = 4, plan.k = 7;
+    for (c = 0; c < 4; c++)
+        plan.starts[c] = (uint16_t)(c + 1), plan.insts[c] = (uint16_t)(2 + c % 2 * 4);
+    plan.selection[2] = plan.selection[6] = 1;
+    b = tolmupung_write_plan(plan, planned, sizeof planned);
+    r = tolmupung_judge(sheet, a.length, planned, b.length);
+    check(r.outcome == TOLMUPUNG_PASSED && r.number == 0 && r.paper == 0 && r.cost == 65535 + 65534 && r.visits == 0 &&
+              r.length == 0,
+          "a plan passes at its cost");
+    check(answers(tolmupung_judge(planned, b.length, sheet, a.length), TOLMUPUNG_REFUSED, TOLMUPUNG_FORM_DIFFERS,
+                  TOLMUPUNG_PAPER_JOB, 0),
+          "a plan's sheet is no job's");
+    plan.selection[2] = 0, b = tolmupung_write_plan(plan, planned, sizeof planned);
+    check(answers(tolmupung_judge(sheet, a.length, planned, b.length), TOLMUPUNG_REFUSED, TOLMUPUNG_ROW_UNSELECTED,
+                  TOLMUPUNG_PAPER_PLAN, 0),
+          "a row on an unselected instance");
+    check(answers(tolmupung_judge(sheet, a.length, NULL, 9), TOLMUPUNG_REFUSED, TOLMUPUNG_BITS_RUN_OUT,
+                  TOLMUPUNG_PAPER_PLAN, 0),
+          "NULL judged as a plan");
+    check(answers(tolmupung_judge(NULL, 9, planned, b.length), TOLMUPUNG_REFUSED, TOLMUPUNG_BITS_RUN_OUT,
+                  TOLMUPUNG_PAPER_JOB, 0),
+          "NULL judged as a job");
+}
+
 static void nothing(void)
 {
     size_t length;
@@ -115,6 +150,7 @@ int main(void)
     layout();
     jobs();
     plans();
+    judging();
     nothing();
     return failed;
 }

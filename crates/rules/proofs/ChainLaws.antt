@@ -1,5 +1,5 @@
 -- Laws of what runs bring: a raised cell, one link more, and a bound.
-use Prim.Native.Nat.{ℕ, zero, suc, _+_, _*_, _<_, _≤_, max}
+use Prim.Native.Nat.{ℕ, _+_, _*_, _<_, _≤_, max}
 use mathlib.Core.Path.{_≡_, refl, sym, ap, _∙_}
 use mathlib.Core.Bool.{Bool, true, false}
 use mathlib.Core.List.{List}
@@ -8,7 +8,7 @@ use native.Mathlib.Nat.{max-eq-left, max-eq-right, max-le}
 use native.Mathlib.Numerals.{add-one}
 use native.Mathlib.Omega.{arith}
 use lib.Dec.{leb}
-use lib.ListN.{length, getD, set, length-set}
+use lib.ListN.{length, set, length-set}
 use lib.Seq.{set-out, set-getD, getD-set-same, getD-set-other}
 use Rattle.basics.specs.Tables.{cell}
 use Rattle.rules.specs.Rules.{sameStep, carried, raised, raisedIf, brings, broughtBy, runOk, Bounded}

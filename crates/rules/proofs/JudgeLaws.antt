@@ -22,7 +22,7 @@ use Rattle.rules.specs.Rules.{rowsFault}
 use Rattle.rules.specs.Judge.{countsFault, placingFault, judgeFault, planCost, passOr, judged, ifRead, judge}
 use Rattle.rules.specs.declared.Timing.{Timing}
 use Rattle.rules.specs.declared.Judged.{Judged}
-use Rattle.rules.specs.declared.Judged.the-variants.{Passed, Refused}
+use Rattle.rules.specs.declared.Judged.the-variants.{Refused}
 
 pub counts-agree : (j : Job) (p : Plan) → judgeFault j p ≡ 0 → (p .n ≡ j .n) × (p .k ≡ instCount j)
 unfolding judgeFault countsFault
@@ -41,15 +41,19 @@ unfolding judgeFault
 fault-is j p k types timing counts ordered rows placing fault order ek et em ec eo er ep ef e =
     e ∙ rw (ef, ec, eo, er, ep, em, et, ek)
 
-pub judged-refused : (j : Job) (p : Plan) (k : ℕ) → k ≡ judgeFault j p → (k ≡ 0 → ⊥) → Refused k paperPlan ≡ judged j p
-unfolding judged passOr
-judged-refused j p zero e h = absurd (h refl)
-judged-refused j p (suc k) e h = rw (← e)
+pub refused-by : (fault cost : ℕ) → (fault ≡ 0 → ⊥) → Refused fault paperPlan ≡ passOr fault cost
+unfolding passOr
+refused-by zero cost h = absurd (h refl)
+refused-by (suc k) cost h = refl
 
-pub judged-passed : (j : Job) (p : Plan) (cost : ℕ) → judgeFault j p ≡ 0 → cost ≡ selectionCost (j .costs) (typesOf j) (selected (p .selection)) (p .k)
-    → Passed cost ≡ judged j p
+-- where the counts agree, the plan's K instances are the job's
+pub judged-is : (j : Job) (p : Plan) (fault cost : ℕ) (v : Judged) → fault ≡ judgeFault j p → cost ≡ selectionCost (j .costs) (typesOf j) (selected (p .selection)) (p .k)
+    → v ≡ passOr fault cost → v ≡ judged j p
 unfolding judged passOr planCost
-judged-passed j p cost z e = rw (z) (ap (λ (c : ℕ). Passed c) (e ∙ ap (selectionCost (j .costs) (typesOf j) (selected (p .selection))) (counts-agree j p z .1)))
+judged-is j p zero cost v e d h =
+    let k = d ∙ ap (selectionCost (j .costs) (typesOf j) (selected (p .selection))) (counts-agree j p (sym e) .1) in
+    h ∙ ap (λ (c : ℕ). passOr 0 c) k ∙ ap (λ (f : ℕ). passOr f (planCost j p)) e
+judged-is j p (suc k) cost v e d h = h ∙ ap (λ (f : ℕ). passOr f (planCost j p)) e
 
 -- ---- a paper that cannot be read ends the question there
 

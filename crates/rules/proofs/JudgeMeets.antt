@@ -1,21 +1,19 @@
 -- The judge passes a plan with a cost exactly when the papers are read, the plan meets the rules, and that is its cost:
 -- `judge-passes`. No cost is above the greatest: `judge-cost`.
-use Prim.Native.Nat.{ℕ, zero, suc, _+_, _-_, _*_, _^_, _≤_, _<_}
-use mathlib.Core.Path.{_≡_, refl, sym, ap, subst, _∙_}
-use mathlib.Core.Bool.{Bool, true, _&&_}
+use Prim.Native.Nat.{ℕ, zero, suc, _+_, _-_, _≤_, _<_}
+use mathlib.Core.Path.{_≡_, refl, sym, ap, subst}
+use mathlib.Core.Bool.{true, _&&_}
 use mathlib.Core.List.{List, [], _∷_}
 use mathlib.Core.Logic.{_⊎_, _↔_}
 use native.Mathlib.Omega.{arith}
 use borrow.Author.Tests.{eqb-true, ltb-true, eq-eqb, lt-ltb}
-use lib.Dec.{eqb, lit<}
-use Rattle.basics.specs.Counting.{allTo}
-use Rattle.basics.specs.Faults.{_orElse_, faultUnless, first}
-use Rattle.basics.specs.Numbers.{countsDiffer, orderBroken, precedenceBroken, resourceBroken, chainBroken, paperPlan}
-use Rattle.basics.specs.Tables.{cell, cells}
+use lib.Dec.{lit<}
+use Rattle.basics.specs.Numbers.{countsDiffer, orderBroken, precedenceBroken, resourceBroken, chainBroken}
+use Rattle.basics.specs.Tables.{cell}
 use Rattle.basics.proofs.CountLaws.{and-both, both-and, allTo-each, each-allTo, sumTo-most, only-small}
 use Rattle.basics.proofs.FaultLaws.{orElse-none, none-orElse, unless-none, none-unless, first-none, none-first}
 use Rattle.basics.proofs.TableLaws.{cell-cells}
-use Rattle.sheets.specs.Limits.{opCells, instCells}
+use Rattle.sheets.specs.Limits.{opCells}
 use Rattle.sheets.specs.JobSheet.{readJob}
 use Rattle.sheets.specs.PlanSheet.{readPlan}
 use Rattle.sheets.specs.declared.Job.{Job}
@@ -29,13 +27,13 @@ use Rattle.rules.specs.Selection.{selected, orderOk, costAt, selectionCo
 use Rattle.rules.specs.declared.Judged.{Judged}
 use Rattle.rules.specs.declared.Judged.the-variants.{Passed, Refused}
 use Rattle.rules.specs.declared.Timing.{Timing}
-use Rattle.rules.specs.Rules.{rowFault, rowFaultAt, rowsFault, joins, placed, linkOk, precedenceOk, resourceOk, chainsOk}
+use Rattle.rules.specs.Rules.{rowFaultAt, rowsFault, joins, placed, linkOk, precedenceOk, resourceOk, chainsOk}
 use Rattle.rules.specs.Judge.{countsFault, placingFault, judgeFault, planCost, passOr, judged, ifRead, judge}
-use Rattle.rules.specs.Meets.{Link, Joined, AllIn, runTotal, RunsFit, start, inst, time, delay, spacing, Row, Meets, Passes, maxCost}
+use Rattle.rules.specs.Meets.{Link, Joined, runTotal, RunsFit, start, inst, time, delay, spacing, Row, Meets, Passes, maxCost}
 use Rattle.rules.proofs.ChainRule.{chain-rule}
 use Rattle.rules.proofs.JudgeLaws.{counts-agree}
 use Rattle.rules.proofs.ModelLaws.{types-rise}
-use Rattle.rules.proofs.RuleLaws.{asked, where-asked, order-says, says-order, RowOk, none-row, row-none, precedes-says, says-precedes, resource-says, says-resource}
+use Rattle.rules.proofs.RuleLaws.{asked, where-asked, order-says, says-order, none-row, row-none, precedes-says, says-precedes, resource-says, says-resource}
 
 module _ (j : Job) (p : Plan) (sound : JobSound j) where
   abbrev timing : Timing

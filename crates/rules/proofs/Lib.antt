@@ -1,8 +1,6 @@
 pub mod ModelLaws
-pub mod SelectionLaws
-pub mod ChainLaws
-pub mod JudgeLaws
-pub mod ResourceLaws
-pub mod ChainRule
 pub mod RuleLaws
+pub mod ChainLaws
+pub mod ChainRule
+pub mod JudgeLaws
 pub mod JudgeMeets

@@ -1,5 +1,5 @@
 -- Laws of the model: what the tables hold.
-use Prim.Native.Nat.{ℕ, zero, suc, _+_, _-_, _*_, _/_, _%_, _<_, _≤_, min}
+use Prim.Native.Nat.{ℕ, zero, suc, _+_, _-_, _/_, _%_, _<_, _≤_, min}
 use mathlib.Core.Path.{_≡_, refl, sym, ap, _∙_}
 use mathlib.Core.List.{List}
 use native.Mathlib.Decide.{decLt}
@@ -12,7 +12,7 @@ use Rattle.basics.specs.Counting.{sumTo, only}
 use Rattle.basics.specs.Tables.{cell, cells}
 use Rattle.basics.proofs.CountLaws.{sumTo-below, sumTo-rises}
 use Rattle.basics.proofs.TableLaws.{length-cells, cell-cells, cell-unused, cells-cong}
-use Rattle.sheets.specs.Limits.{instCells, opCells, kindCount, pairCells}
+use Rattle.sheets.specs.Limits.{instCells, opCells, pairCells}
 use Rattle.sheets.specs.declared.Job.{Job}
 use Rattle.rules.specs.Model.{behind, typeAt, typesIn, typesOf, spanOf, roundedUp, stepsAt, rowAt, rowTable, timingIn, unitCells, unitAt, unitTable, tablesOf}
 use Rattle.rules.specs.declared.Tables.{Tables}

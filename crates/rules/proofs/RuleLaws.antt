@@ -1,6 +1,6 @@
 -- Each test of a rule holds exactly where the rule does as a person says it.
 use Prim.Native.Nat.{ℕ, zero, suc, _+_, _-_, _≤_, _<_}
-use mathlib.Core.Path.{_≡_, refl, sym, ap, _∙_}
+use mathlib.Core.Path.{_≡_, refl, sym, _∙_}
 use mathlib.Core.Bool.{Bool, true, false, not, _||_, _&&_}
 use mathlib.Core.List.{List}
 use mathlib.Core.Logic.{_⊎_, inl, inr, ⊎-elim}
@@ -8,14 +8,12 @@ use native.Mathlib.Decide.{ℕ-discrete, decLt}
 use native.Mathlib.Omega.{arith}
 use borrow.Author.Tests.{leb-true, ltb-true, eqb-true, le-leb, lt-ltb, eq-eqb, ne-eqb}
 use lib.Dec.{ltb, leb, eqb, lit<}
-use Rattle.basics.specs.Counting.{allTo}
-use Rattle.basics.specs.Faults.{_orElse_, faultUnless}
 use Rattle.basics.specs.Numbers.{rowInstance, rowKind, rowUnselected, rowStep}
 use Rattle.basics.specs.Tables.{cell}
 use Rattle.basics.proofs.CountLaws.{and-both, both-and, either, allTo-each, each-allTo}
 use Rattle.basics.proofs.FaultLaws.{orElse-none, none-orElse, unless-none, none-unless}
 use Rattle.rules.specs.Selection.{selected, orderAt, orderOk}
-use Rattle.rules.specs.Rules.{finish, rowFault, placed, joins, precedes, linkOk, precedenceOk, apart, shareOk, besideOk, resourceOk}
+use Rattle.rules.specs.Rules.{finish, rowFault, placed, precedes, apart, shareOk, besideOk, resourceOk}
 
 -- ---- tests
 
@@ -43,6 +41,14 @@ not-both true e h = let z : _≡_ {A = ℕ} 0 1 = cc in omega arith
 not-both false e h = let z : _≡_ {A = ℕ} 0 1 = cc in omega arith
 
 -- ---- selection order, of types that rise
+
+-- an instance that has one before it
+pub order-behind : (types selection : List ℕ) (i : ℕ) (r : Bool) → (i ≡ 0 → ⊥)
+    → r ≡ (not (eqb (cell types (i - 1)) (cell types i)) || not (selected selection (i - 1)) || selected selection i)
+    → r ≡ orderAt types selection i
+unfolding orderAt
+order-behind types selection zero r h e = absurd (h refl)
+order-behind types selection (suc i) r h e = let q : suc i - 1 ≡ i = omega arith in rw q at e
 
 module _ (types selection : List ℕ) (k : ℕ) where
   abbrev Ordered : Type 0
@@ -139,6 +145,16 @@ module _ (start delay start' delay' : ℕ) where
       (λ a. either-right (ltb (finish start delay) start') _ (both-and _ _ (both-and _ _ (eq-eqb start start' (a .0)) (eq-eqb delay 1 (a .1))) (eq-eqb delay' 1 (a .2)))) h
 
 -- ---- resource: of two placed on one instance, the one that does not start later
+
+pub share-other : (starts insts spacings : List ℕ) (b a : ℕ) → (cell insts a ≡ cell insts b → ⊥) → true ≡ shareOk starts insts spacings b a
+unfolding shareOk
+share-other starts insts spacings b a h = rw (ne-eqb _ _ h)
+
+pub share-same : (starts insts spacings : List ℕ) (b a : ℕ) (r : Bool) → cell insts a ≡ cell insts b
+    → r ≡ (not (placed starts a && placed starts b) || apart (cell starts a) (cell starts b) (cell spacings b) || apart (cell starts b) (cell starts a) (cell spacings a))
+    → r ≡ shareOk starts insts spacings b a
+unfolding shareOk
+share-same starts insts spacings b a r h e = e ∙ sym (rw (eq-eqb _ _ h))
 
 module _ (starts insts spacings : List ℕ) (n : ℕ) (at : (o : ℕ) → o < n → 1 ≤ cell starts o) where
   abbrev start : ℕ → ℕ

@@ -1,6 +1,6 @@
 // The judge: a plan passes exactly when it meets every rule.
 ghost use mathlib.Core.Path.{_≡_};
-ghost use Rattle.rules.specs.Judge.{countsFault, placingFault, judged as judgedBy, ifRead, judge as judgeOf, judgedSays as saysOf};
+ghost use Rattle.rules.specs.Judge.{countsFault, placingFault, passOr, judged as judgedBy, ifRead, judge as judgeOf, judgedSays as saysOf};
 ghost use Rattle.rules.specs.declared.Judged.the-variants.{Refused};
 use crate::Judged;
 use crate::Timing;
@@ -55,6 +55,19 @@ pub fn placing_fault<'a>(
     )
 }
 
+// Passed at the cost, or refused by the fault.
+fn pass_or(fault: u32, cost: u32) -> Judged
+    ensures { λ r. ⌜ r ≡ passOr fault cost ⌝ }
+{
+    if fault == 0 {
+        return Judged::Passed { cost };
+    }
+    Judged::Refused {
+        number: fault,
+        paper: basics::PAPER_PLAN,
+    }
+}
+
 // A plan passes at its cost, or is refused by the first rule that it breaks.
 pub fn judged(job: Job, plan: Plan) -> Judged
     ensures { λ r. ⌜ r ≡ judgedBy job plan ⌝ }
@@ -94,14 +107,8 @@ pub fn judged(job: Job, plan: Plan) -> Judged
     );
     let ordered = fault_unless(order, basics::ORDER_BROKEN);
     let fault = or_else(counts, or_else(ordered, or_else(rows, placing)));
-    if fault != 0 {
-        return Judged::Refused {
-            number: fault,
-            paper: basics::PAPER_PLAN,
-        };
-    }
     let cost = selection_cost(&job.costs, &types, &plan.selection, plan.k);
-    Judged::Passed { cost }
+    pass_or(fault, cost)
 }
 
 // The answer on a paper that could not be read.

@@ -1,6 +1,6 @@
 -- The starred cases of document 01 ("Sheets tried by hand"), one table: what is asked of an entry for C, in bytes, and what
 -- it answers. `Hold` is the one statement about them.
-use Prim.Native.Nat.{ℕ, zero, suc}
+use Prim.Native.Nat.{ℕ}
 use mathlib.Core.Path.{_≡_}
 use mathlib.Core.List.{List, [], _∷_, _++_}
 use lib.ListN.{replicate}

@@ -1,8 +1,8 @@
--- The first fault refuses; else the selection is added up.
-use mathlib.Core.Path.{_∙_, _≡_, sym}
+-- The rules are tested one by one; the first fault refuses.
+use mathlib.Core.Path.{_≡_}
 use borrow.Author.Needs.{needs}
 use Rattle.rules.specs.Judge.{judgeFault}
-use Rattle.rules.proofs.JudgeLaws.{fault-is, judged-passed, judged-refused}
+use Rattle.rules.proofs.JudgeLaws.{fault-is, judged-is}
 use Rattle.rules.proofs.ModelLaws.{types-counted}
 use Rattle.rules.proofs.judging.judged.Statement.{statement}
 use Rattle.rules.proofs.judging.judged.Tie as tie
@@ -58,20 +58,20 @@ or-else-requires-2 c κs = search needs
 or-else-requires-3 : tie.Need-or-else-requires-3
 or-else-requires-3 c κs = search needs
 
-returns : tie.Need-returns
-returns c = judged-refused _ _ _ (fault (c .before)) (c .if1 .taken)
-
 slice-aggregate-selection-cost : tie.Need-slice-aggregate-selection-cost
-slice-aggregate-selection-cost c = types-counted _ _ _ (c .before .before .before .before .before .before .before .before .before .before .before .before .before .before .before .before .before .before .before .before .before .before .before .before .before .before .before .before .before .before .before .before .before .before .before .before .before .before .before .before .before .before .before .before .before .before .before .before .before .before .before .types-of .ensures)
+slice-aggregate-selection-cost c = types-counted _ _ _ (c .before .before .before .before .before .before .before .before .before .before .before .before .before .before .before .before .before .before .before .before .before .before .before .before .before .before .before .before .before .before .before .before .before .before .before .before .before .before .before .before .before .before .before .before .before .before .before .before .before .before .types-of .ensures)
 
 selection-cost-requires : tie.Need-selection-cost-requires
 selection-cost-requires c κs = search needs
 
-returns-2 : tie.Need-returns-2
-returns-2 c =
+pass-or-requires : tie.Need-pass-or-requires
+pass-or-requires c κs = search needs
+
+returns : tie.Need-returns
+returns c =
     let b9 = c .before .before .before .before .before .before .before .before .before in
     let b55 = b9 .before .before .before .before .before .before .before .before .before .before .before .before .before .before .before .before .before .before .before .before .before .before .before .before .before .before .before .before .before .before .before .before .before .before .before .before .before .before .before .before .before .before .before .before .before .before in
-    judged-passed _ _ _ (sym (fault b9) ∙ c .before .before .before .before .before .before .before .before .if1 .left) (rw (b55 .types-of .ensures) at (c .selection-cost .ensures))
+    judged-is _ _ _ _ _ (fault b9) (rw (b55 .types-of .ensures) at (c .before .selection-cost .ensures)) (c .pass-or .ensures)
 
 pub judged-spec : {M : Type 1} → statement M
 judged-spec =
@@ -90,7 +90,7 @@ judged-spec =
     or-else-requires
     or-else-requires-2
     or-else-requires-3
-    returns
     slice-aggregate-selection-cost
     selection-cost-requires
-    returns-2)
+    pass-or-requires
+    returns)

@@ -3,7 +3,7 @@ use mathlib.Core.Path.{_∙_, sym}
 use borrow.Author.Needs.{needs}
 use Rattle.basics.specs.Tables.{cell}
 use Rattle.rules.specs.Rules.{apart}
-use Rattle.rules.proofs.ResourceLaws.{share-other, share-same}
+use Rattle.rules.proofs.RuleLaws.{share-other, share-same}
 use Rattle.rules.proofs.resource.share_ok.Statement.{statement}
 use Rattle.rules.proofs.resource.share_ok.Tie as tie
 

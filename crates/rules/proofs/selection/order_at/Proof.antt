@@ -4,7 +4,7 @@ use native.Mathlib.Omega.{arith}
 use borrow.Author.Needs.{needs}
 use Rattle.basics.specs.Tables.{cell}
 use Rattle.rules.specs.Selection.{orderAt, selected}
-use Rattle.rules.proofs.SelectionLaws.{order-behind}
+use Rattle.rules.proofs.RuleLaws.{order-behind}
 use Rattle.rules.proofs.selection.order_at.Statement.{statement}
 use Rattle.rules.proofs.selection.order_at.Tie as tie
 
