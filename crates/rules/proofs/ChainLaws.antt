@@ -11,7 +11,7 @@ use lib.Dec.{leb}
 use lib.ListN.{length, set, length-set}
 use lib.Seq.{set-out, set-getD, getD-set-same, getD-set-other}
 use Rattle.basics.specs.Tables.{cell}
-use Rattle.rules.specs.Rules.{sameStep, carried, raised, raisedIf, brings, broughtBy, runOk, Bounded}
+use Rattle.rules.specs.Rules.{sameStep, carried, raised, raisedIf, brings, broughtBy, runOk, linkMost, Bounded}
 
 -- ---- a raised cell
 
@@ -76,11 +76,11 @@ module _ (from to : List ℕ) (wire : ℕ) (starts times : List ℕ) where
   brought-more l = rw add-one
 
   -- with the bound
-  pub bound-on : (brought after : List ℕ) (l x b : ℕ) → sameStep from to starts l ≡ true → x ≡ carried from wire times brought l → x ≤ 131072 * (l + 1) → Bounded brought l
+  pub bound-on : (brought after : List ℕ) (l x b : ℕ) → sameStep from to starts l ≡ true → x ≡ carried from wire times brought l → x ≤ linkMost * (l + 1) → Bounded brought l
       → b ≡ cell to l → after ≡ raised brought b x → (after ≡ brings from to wire starts times brought l) × Bounded after (l + 1)
   bound-on brought after l x b h e q w d a = (
     a ∙ ap (λ (t : ℕ). raised brought t x) d ∙ ap (raised brought (cell to l)) e ∙ sym (brings-on brought l h),
-    rw a (raised-most brought b x (131072 * (l + 1)) (λ o. omega (arith, w o)) q),
+    rw a (raised-most brought b x (linkMost * (l + 1)) (λ o. omega (arith, w o)) q),
   )
 
   pub bound-off : (brought : List ℕ) (l : ℕ) → sameStep from to starts l ≡ false → Bounded brought l

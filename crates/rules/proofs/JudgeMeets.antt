@@ -1,6 +1,6 @@
 -- The judge passes a plan with a cost exactly when the papers are read, the plan meets the rules, and that is its cost:
 -- `judge-passes`. No cost is above the greatest: `judge-cost`.
-use Prim.Native.Nat.{ℕ, zero, suc, _+_, _-_, _≤_, _<_}
+use Prim.Native.Nat.{ℕ, zero, suc, _+_, _-_, _^_, _≤_, _<_}
 use mathlib.Core.Path.{_≡_, refl, sym, ap, subst}
 use mathlib.Core.Bool.{true, _&&_}
 use mathlib.Core.List.{List, [], _∷_}
@@ -13,7 +13,7 @@ use Rattle.basics.specs.Tables.{cell}
 use Rattle.basics.proofs.CountLaws.{and-both, both-and, allTo-each, each-allTo, sumTo-most, only-small}
 use Rattle.basics.proofs.FaultLaws.{orElse-none, none-orElse, unless-none, none-unless, first-none, none-first}
 use Rattle.basics.proofs.TableLaws.{cell-cells}
-use Rattle.sheets.specs.Limits.{opCells}
+use Rattle.sheets.specs.Limits.{opCells, costBits}
 use Rattle.sheets.specs.JobSheet.{readJob}
 use Rattle.sheets.specs.PlanSheet.{readPlan}
 use Rattle.sheets.specs.declared.Job.{Job}
@@ -255,6 +255,6 @@ module _ (job plan : List ℕ) (c : ℕ) where
       let m = pass-meets e in
       let j = m .asJob in
       let f : ℕ → ℕ = costAt (j .costs) (typesOf j) (selected (m .asPlan .selection)) in
-      let most : (i : ℕ) → i < instCount j → f i ≤ 65535 =
+      let most : (i : ℕ) → i < instCount j → f i ≤ 2 ^ costBits - 1 =
       λ i l. omega (arith, only-small (selected (m .asPlan .selection) i) (cell (j .costs) (cell (typesOf j) i)), job-costs job j (m .jobRead) (cell (typesOf j) i)) in
-      omega (arith, m .cost, sumTo-most f 65535 (instCount j) most, job-sound job j (m .jobRead) .insts)
+      omega (arith, m .cost, sumTo-most f (2 ^ costBits - 1) (instCount j) most, job-sound job j (m .jobRead) .insts)

@@ -97,6 +97,6 @@ pub record Passes (job plan : List ℕ) (c : ℕ) : Type 0 where
   pub meets : Meets asJob asPlan
   pub cost : c ≡ planCost asJob asPlan
 
--- the greatest cost: every instance at the greatest cost of a type
+-- the greatest cost: 16 instances at 65,535
 abbrev pub maxCost : ℕ
 maxCost = 1048560

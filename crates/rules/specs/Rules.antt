@@ -1,7 +1,7 @@
 -- The rules on rows, precedence, resource and chain, each among the operations that are placed: `starts` and `insts` hold
 -- each operation's start and instance, start 0 is not placed, and `times`, `delays` and `spacings` are what each takes on its
 -- instance. Judge, walk and notes share them.
-use Prim.Native.Nat.{ℕ, zero, suc, _+_, _-_, _*_, _≤_, max}
+use Prim.Native.Nat.{ℕ, zero, suc, _+_, _-_, _*_, _^_, _≤_, max}
 use mathlib.Core.Bool.{Bool, true, false, not, _||_, _&&_}
 use mathlib.Core.List.{List}
 use lib.Dec.{ltb, leb, eqb}
@@ -112,6 +112,9 @@ runOkAt from to wire clock starts times l = runOk from to wire clock starts time
 unfoldable pub chainsOk : List ℕ → List ℕ → ℕ → ℕ → ℕ → List ℕ → List ℕ → Bool
 chainsOk from to e wire clock starts times = allTo (runOkAt from to wire clock starts times) e
 
--- (a bound on what l links can bring, that sums of it fit)
+-- a bound on what l links can bring, so that sums of it fit: a time and a wire for each, 16 bits wide
+abbrev pub linkMost : ℕ
+linkMost = 2 * 2 ^ 16
+
 abbrev pub Bounded : List ℕ → ℕ → Type 0
-Bounded brought l = (o : ℕ) → cell brought o ≤ 131072 * l
+Bounded brought l = (o : ℕ) → cell brought o ≤ linkMost * l

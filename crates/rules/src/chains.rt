@@ -2,7 +2,7 @@
 ghost use mathlib.Core.Path.{_≡_};
 ghost use Prim.Native.Nat.{_+_, _*_, _^_, _<_, _≤_};
 ghost use Rattle.basics.specs.Tables.{cell as cellOf};
-ghost use Rattle.rules.specs.Rules.{sameStep, carried as carriedBy, raised, brings, Bounded, runOk, chainsOk};
+ghost use Rattle.rules.specs.Rules.{sameStep, carried as carriedBy, raised, brings, linkMost, Bounded, runOk, chainsOk};
 use crate::precedence::joins;
 use basics::cell;
 use sheets::limits::OP_CELLS;
@@ -32,7 +32,7 @@ fn carried<'a>(
     l: usize,
 ) -> usize
     requires { ⌜ (l < 2 ^ 16) × Bounded (now brought) l ⌝ }
-    ensures { λ r. ⌜ (r ≡ carriedBy (now (from .entry)) wire (now (times .entry)) (now (brought .entry)) l) × (r ≤ 131072 * (l + 1)) ⌝ }
+    ensures { λ r. ⌜ (r ≡ carriedBy (now (from .entry)) wire (now (times .entry)) (now (brought .entry)) l) × (r ≤ linkMost * (l + 1)) ⌝ }
 {
     let a = cell(from, l) as usize;
     brought_to(brought, a) + cell(times, a) as usize + wire as usize

@@ -3,13 +3,16 @@ use Prim.Native.Nat.{_*_, _≤_}
 use native.Mathlib.Omega.{arith}
 use borrow.Author.Needs.{needs}
 use Rattle.basics.specs.Tables.{cell}
-use Rattle.rules.specs.Rules.{carried}
+use Rattle.rules.specs.Rules.{carried, linkMost}
 use Rattle.rules.proofs.chains.carried.Statement.{statement}
 use Rattle.rules.proofs.chains.carried.Tie as tie
 
 -- what was brought to the first operation
-most : (c : tie.After-cell2) → c .before .brought-to .result ≤ 131072 * c .before .before .before .before .before .before .args .l
-most c = rw (c .before .brought-to .ensures) (c .before .before .before .before .before .before .pre .1 (c .before .before .cell .result))
+most : (c : tie.After-cell2) → c .before .brought-to .result ≤ linkMost * c .before .before .before .before .before .before .args .l
+most c =
+    let b2 = c .before .before in
+    let b6 = b2 .before .before .before .before in
+    rw (c .before .brought-to .ensures) (b6 .pre .1 (b2 .cell .result))
 
 cell-requires : tie.Need-cell-requires
 cell-requires c κs = search needs

@@ -8,7 +8,7 @@ use Rattle.basics.specs.Counting.{allTo}
 use Rattle.basics.specs.Tables.{cell}
 use Rattle.basics.proofs.CountLaws.{allTo-more}
 use Rattle.sheets.specs.Limits.{opCells}
-use Rattle.rules.specs.Rules.{Bounded, broughtBy, chainsOk, runOkAt}
+use Rattle.rules.specs.Rules.{Bounded, linkMost, broughtBy, chainsOk, runOkAt}
 use Rattle.rules.proofs.ChainLaws.{brings-length, brought-more}
 use lib.ListN.{List·getD-eq-default}
 use Rattle.rules.proofs.chains.chains_ok.Statement.{statement}
@@ -21,7 +21,7 @@ abbrev μ-loop : tie.MeasureT-loop
 μ-loop from to e wire clock starts times links brought₀ ok₀ l₀ brought ok l = links - l
 
 -- at first nothing has been brought
-zeros : (o : ℕ) → cell (replicate opCells 0) o ≤ 131072 * 0
+zeros : (o : ℕ) → cell (replicate opCells 0) o ≤ linkMost * 0
 zeros o =
     elim (decLt o opCells) [
       | yes h ↦ omega (arith, getD-replicate {A = ℕ} opCells o 0 0 h)
@@ -53,7 +53,8 @@ loop-again c =
 returns : tie.Need-returns Inv-loop μ-loop
 unfolding chainsOk
 returns c =
-    let e : c .before .loop .l ≡ c .before .before .before .before .before .before .args .e = omega arith in
+    let b6 = c .before .before .before .before .before .before in
+    let e : c .before .loop .l ≡ b6 .args .e = omega arith in
     rw e at (c .before .loop .inv .4)
 
 pub chains-ok-spec : {M : Type 1} → statement M

@@ -15,11 +15,14 @@ same-step-requires c κs = search needs
 
 returns : tie.Need-returns
 returns c =
+    let b7 = c .before .before .before .before .before .before .before in
     let e : sameStep _ _ _ _ ≡ false = sym (c .before .same-step .ensures) ∙ not-true _ (c .if1 .taken) in
-    (run-off _ _ _ _ _ _ _ _ e, bound-off _ _ _ _ _ _ _ e (c .before .before .before .before .before .before .before .pre .1))
+    (run-off _ _ _ _ _ _ _ _ e, bound-off _ _ _ _ _ _ _ e (b7 .pre .1))
 
 carried-requires : tie.Need-carried-requires
-carried-requires c κs = c .before .before .before .before .before .before .before .before .pre
+carried-requires c κs =
+    let b8 = c .before .before .before .before .before .before .before .before in
+    b8 .pre
 
 cell-requires : tie.Need-cell-requires
 cell-requires c κs = search needs
@@ -37,16 +40,24 @@ cast-result : tie.Need-cast-result
 cast-result c = omega arith
 
 add-result : tie.Need-add-result
-add-result c = omega (arith, c .before .before .before .before .before .before .carried .ensures .1)
+add-result c =
+    let b6 = c .before .before .before .before .before .before in
+    omega (arith, b6 .carried .ensures .1)
 
 same-length : tie.Need-same-length
 same-length c = search needs
 
 returns-2 : tie.Need-returns-2
 returns-2 c =
-    let k = c .before .before .before .before .before .before .carried .ensures in
-    let e : sameStep _ _ _ _ ≡ true = sym (c .before .before .before .before .before .before .before .before .before .same-step .ensures) ∙ not-false _ (c .before .before .before .before .before .before .before .before .if1 .left) in
-    (run-on _ _ _ _ _ _ _ _ e (simp (k .0, c .cell2 .ensures .0, c .before .before .before .before .before .cell .ensures .0)), bound-on _ _ _ _ _ _ _ _ _ _ e (k .0) (k .1) (c .before .before .before .before .before .before .before .before .before .before .before .before .before .before .before .pre .1) (c .before .before .before .before .before .cell .ensures .0) (c .before .before .before .raise .ensures))
+    let b3 = c .before .before .before in
+    let b5 = b3 .before .before in
+    let b6 = b5 .before in
+    let b8 = b6 .before .before in
+    let b9 = b8 .before in
+    let b15 = b9 .before .before .before .before .before .before in
+    let k = b6 .carried .ensures in
+    let e : sameStep _ _ _ _ ≡ true = sym (b9 .same-step .ensures) ∙ not-false _ (b8 .if1 .left) in
+    (run-on _ _ _ _ _ _ _ _ e (simp (k .0, c .cell2 .ensures .0, b5 .cell .ensures .0)), bound-on _ _ _ _ _ _ _ _ _ _ e (k .0) (k .1) (b15 .pre .1) (b5 .cell .ensures .0) (b3 .raise .ensures))
 
 pub run-ok-spec : {M : Type 1} → statement M
 run-ok-spec =

@@ -28,7 +28,11 @@ cell-requires-4 c κs = search needs
 
 returns : tie.Need-returns
 unfolding sameStep
-returns c = simp (c .cell4 .ensures .0, c .before .cell3 .ensures .0, c .before .before .joins .ensures, c .before .before .before .cell2 .ensures .0, c .before .before .before .before .cell .ensures .0)
+returns c =
+    let b2 = c .before .before in
+    let b3 = b2 .before in
+    let b4 = b3 .before in
+    simp (c .cell4 .ensures .0, c .before .cell3 .ensures .0, b2 .joins .ensures, b3 .cell2 .ensures .0, b4 .cell .ensures .0)
 
 pub same-step-spec : {M : Type 1} → statement M
 same-step-spec =

@@ -33,13 +33,22 @@ unread-requires-2 : tie.Need-unread-requires-2
 unread-requires-2 c κs = search needs
 
 returns-2 : tie.Need-returns-2
-returns-2 c = unread-plan _ _ _ (c .before .before .before .before .before .before .read-job .ensures .0) _ (c .before .before .before .read-plan .ensures .0) (c .before .before .before .before .enum-told .given .1) _ _ _ (c .before .enum-told4 .given .1) (c .unread2 .ensures)
+returns-2 c =
+    let b3 = c .before .before .before in
+    let b4 = b3 .before in
+    let b6 = b4 .before .before in
+    unread-plan _ _ _ (b6 .read-job .ensures .0) _ (b3 .read-plan .ensures .0) (b4 .enum-told .given .1) _ _ _ (c .before .enum-told4 .given .1) (c .unread2 .ensures)
 
 judged-requires : tie.Need-judged-requires
 judged-requires c κs = search needs
 
 returns-3 : tie.Need-returns-3
-returns-3 c = both-read _ _ _ (c .before .before .before .before .before .before .before .before .read-job .ensures .0) _ (c .before .before .before .before .before .read-plan .ensures .0) (c .before .before .before .before .before .before .enum-told .given .1) _ (c .before .before .before .enum-told3 .given .1) (c .judged .ensures)
+returns-3 c =
+    let b3 = c .before .before .before in
+    let b5 = b3 .before .before in
+    let b6 = b5 .before in
+    let b8 = b6 .before .before in
+    both-read _ _ _ (b8 .read-job .ensures .0) _ (b5 .read-plan .ensures .0) (b6 .enum-told .given .1) _ (b3 .enum-told3 .given .1) (c .judged .ensures)
 
 pub judge-spec : {M : Type 1} → statement M
 judge-spec =

@@ -7,8 +7,11 @@ use Rattle.rules.proofs.ModelLaws.{types-counted}
 use Rattle.rules.proofs.judging.judged.Statement.{statement}
 use Rattle.rules.proofs.judging.judged.Tie as tie
 
+abbrev b54 : tie.After-or-else3 → tie.Start
+b54 c = c .before .before .before .before .before .before .before .before .before .before .before .before .before .before .before .before .before .before .before .before .before .before .before .before .before .before .before .before .before .before .before .before .before .before .before .before .before .before .before .before .before .before .before .before .before .before .before .before .before .before .before .before .before .before
+
 -- the first fault
-fault : (c : tie.After-or-else3) → c .or-else3 .result ≡ judgeFault (c .before .before .before .before .before .before .before .before .before .before .before .before .before .before .before .before .before .before .before .before .before .before .before .before .before .before .before .before .before .before .before .before .before .before .before .before .before .before .before .before .before .before .before .before .before .before .before .before .before .before .before .before .before .before .args .t1) (c .before .before .before .before .before .before .before .before .before .before .before .before .before .before .before .before .before .before .before .before .before .before .before .before .before .before .before .before .before .before .before .before .before .before .before .before .before .before .before .before .before .before .before .before .before .before .before .before .before .before .before .before .before .before .args .t2)
+fault : (c : tie.After-or-else3) → c .or-else3 .result ≡ judgeFault (b54 c .args .t1) (b54 c .args .t2)
 fault c =
     let b4 = c .before .before .before .before in
     let b15 = b4 .before .before .before .before .before .before .before .before .before .before .before in
@@ -59,7 +62,9 @@ or-else-requires-3 : tie.Need-or-else-requires-3
 or-else-requires-3 c κs = search needs
 
 slice-aggregate-selection-cost : tie.Need-slice-aggregate-selection-cost
-slice-aggregate-selection-cost c = types-counted _ _ _ (c .before .before .before .before .before .before .before .before .before .before .before .before .before .before .before .before .before .before .before .before .before .before .before .before .before .before .before .before .before .before .before .before .before .before .before .before .before .before .before .before .before .before .before .before .before .before .before .before .before .before .types-of .ensures)
+slice-aggregate-selection-cost c =
+    let b50 = c .before .before .before .before .before .before .before .before .before .before .before .before .before .before .before .before .before .before .before .before .before .before .before .before .before .before .before .before .before .before .before .before .before .before .before .before .before .before .before .before .before .before .before .before .before .before .before .before .before .before in
+    types-counted _ _ _ (b50 .types-of .ensures)
 
 selection-cost-requires : tie.Need-selection-cost-requires
 selection-cost-requires c κs = search needs

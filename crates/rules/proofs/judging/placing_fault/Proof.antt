@@ -30,7 +30,14 @@ or-else-requires-2 c κs = search needs
 
 returns : tie.Need-returns
 unfolding placingFault
-returns c = simp (c .or-else2 .ensures, c .before .or-else .ensures, c .before .before .fault-unless3 .ensures, c .before .before .before .fault-unless2 .ensures, c .before .before .before .before .fault-unless .ensures, c .before .before .before .before .before .chains-ok .ensures, c .before .before .before .before .before .before .before .before .before .resource-ok .ensures, c .before .before .before .before .before .before .before .before .before .before .before .before .before .precedence-ok .ensures)
+returns c =
+    let b2 = c .before .before in
+    let b3 = b2 .before in
+    let b4 = b3 .before in
+    let b5 = b4 .before in
+    let b9 = b5 .before .before .before .before in
+    let b13 = b9 .before .before .before .before in
+    simp (c .or-else2 .ensures, c .before .or-else .ensures, b2 .fault-unless3 .ensures, b3 .fault-unless2 .ensures, b4 .fault-unless .ensures, b5 .chains-ok .ensures, b9 .resource-ok .ensures, b13 .precedence-ok .ensures)
 
 pub placing-fault-spec : {M : Type 1} → statement M
 placing-fault-spec =

@@ -48,7 +48,8 @@ same-length c = c .before .loop .inv .1
 
 returns : tie.Need-returns Inv-loop μ-loop
 returns c =
-    let e : c .before .loop .c ≡ length (c .before .before .before .before .args .steps .now) = omega arith in
+    let b4 = c .before .before .before .before in
+    let e : c .before .loop .c ≡ length (b4 .args .steps .now) = omega arith in
     rw e at (c .before .loop .inv .2)
 
 pub in-steps-spec : {M : Type 1} → statement M

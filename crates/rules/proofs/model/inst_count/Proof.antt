@@ -1,5 +1,5 @@
 -- The loop has added up the copies of the types passed.
-use Prim.Native.Nat.{_*_, _-_, _≤_}
+use Prim.Native.Nat.{_*_, _-_, _^_, _≤_}
 use mathlib.Core.Path.{_≡_}
 use native.Mathlib.Omega.{arith}
 use borrow.Author.Needs.{needs}
@@ -10,7 +10,7 @@ use Rattle.rules.proofs.model.inst_count.Statement.{statement}
 use Rattle.rules.proofs.model.inst_count.Tie as tie
 
 abbrev Inv-loop : tie.InvT-loop
-Inv-loop copies m types sum₀ y₀ sum y = (y ≤ types) × (sum ≤ 65536 * y) × (sum ≡ sumTo (cell copies) y)
+Inv-loop copies m types sum₀ y₀ sum y = (y ≤ types) × (sum ≤ 2 ^ 16 * y) × (sum ≡ sumTo (cell copies) y)
 
 abbrev μ-loop : tie.MeasureT-loop
 μ-loop copies m types sum₀ y₀ sum y = types - y

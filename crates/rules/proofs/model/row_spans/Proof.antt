@@ -61,8 +61,11 @@ loop-less c = omega arith
 
 loop-again : tie.Need-loop-again Inv-loop μ-loop
 loop-again c =
-    let l = c .before .before .before .before .before .loop .inv in
-    (omega arith, rw (filled-more, ← l .1, c .cell4 .ensures .0, c .before .cell3 .ensures .0, c .before .before .cell2 .ensures .0, c .before .before .before .cell .ensures .0))
+    let b2 = c .before .before in
+    let b3 = b2 .before in
+    let b5 = b3 .before .before in
+    let l = b5 .loop .inv in
+    (omega arith, rw (filled-more, ← l .1, c .cell4 .ensures .0, c .before .cell3 .ensures .0, b2 .cell2 .ensures .0, b3 .cell .ensures .0))
 
 returns : tie.Need-returns Inv-loop μ-loop
 returns c =

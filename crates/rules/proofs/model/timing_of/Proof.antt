@@ -29,7 +29,11 @@ in-steps-requires-2 : tie.Need-in-steps-requires-2
 in-steps-requires-2 c κs = search needs
 
 returns : tie.Need-returns
-returns c = timing-is _ _ _ _ _ _ _ _ _ _ (c .before .before .before .before .before .before .before .before .before .row-spans .ensures) (c .before .before .before .before .row-spans2 .ensures) (c .before .before .before .before .before .before .in-steps .ensures) (c .before .in-steps2 .ensures)
+returns c =
+    let b4 = c .before .before .before .before in
+    let b6 = b4 .before .before in
+    let b9 = b6 .before .before .before in
+    timing-is _ _ _ _ _ _ _ _ _ _ (b9 .row-spans .ensures) (b4 .row-spans2 .ensures) (b6 .in-steps .ensures) (c .before .in-steps2 .ensures)
 
 pub timing-of-spec : {M : Type 1} → statement M
 timing-of-spec =

@@ -1,5 +1,5 @@
 -- The loop has counted, of the types passed, those that the instance is behind.
-use Prim.Native.Nat.{_*_, _-_, _≤_}
+use Prim.Native.Nat.{_*_, _-_, _^_, _≤_}
 use mathlib.Core.Path.{_≡_}
 use native.Mathlib.Omega.{arith}
 use borrow.Author.Needs.{needs}
@@ -12,7 +12,7 @@ use Rattle.rules.proofs.model.type_of.Statement.{statement}
 use Rattle.rules.proofs.model.type_of.Tie as tie
 
 abbrev Inv-loop : tie.InvT-loop
-Inv-loop copies m i types sum₀ passed₀ y₀ sum passed y = (y ≤ types) × (passed ≤ y) × (sum ≤ 65536 * y) × (sum ≡ sumTo (cell copies) y) × (passed ≡ sumTo (behind copies i) y)
+Inv-loop copies m i types sum₀ passed₀ y₀ sum passed y = (y ≤ types) × (passed ≤ y) × (sum ≤ 2 ^ 16 * y) × (sum ≡ sumTo (cell copies) y) × (passed ≡ sumTo (behind copies i) y)
 
 abbrev μ-loop : tie.MeasureT-loop
 μ-loop copies m i types sum₀ passed₀ y₀ sum passed y = types - y
@@ -51,7 +51,8 @@ loop-less c = omega arith
 
 loop-again : tie.Need-loop-again Inv-loop μ-loop
 loop-again c =
-    let i = c .before .before .before .loop .inv in
+    let b3 = c .before .before .before in
+    let i = b3 .loop .inv in
     let k = counted c in
     (omega arith, omega arith, omega (arith, c .before .cell .ensures .1), rw (sumTo-more, ← i .3, c .before .cell .ensures .0), rw (sumTo-more, ← i .4, behind-is, ← i .3, c .only .ensures, c .before .cell .ensures .0))
 

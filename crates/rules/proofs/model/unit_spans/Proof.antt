@@ -54,8 +54,10 @@ loop-less c = omega arith
 
 loop-again : tie.Need-loop-again Inv-loop μ-loop
 loop-again c =
-    let l = c .before .before .before .before .loop .inv in
-    (omega arith, rw (filled-more, ← l .1, c .cell3 .ensures .0, c .before .cell2 .ensures .0, c .before .before .cell .ensures .0))
+    let b2 = c .before .before in
+    let b4 = b2 .before .before in
+    let l = b4 .loop .inv in
+    (omega arith, rw (filled-more, ← l .1, c .cell3 .ensures .0, c .before .cell2 .ensures .0, b2 .cell .ensures .0))
 
 returns : tie.Need-returns Inv-loop μ-loop
 returns c =

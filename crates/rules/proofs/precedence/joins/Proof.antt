@@ -25,7 +25,10 @@ cell-requires-4 c κs = search needs
 
 returns : tie.Need-returns
 unfolding joins
-returns c = simp (c .cell4 .ensures .0, c .before .cell3 .ensures .0, c .before .before .cell2 .ensures .0, c .before .before .before .cell .ensures .0)
+returns c =
+    let b2 = c .before .before in
+    let b3 = b2 .before in
+    simp (c .cell4 .ensures .0, c .before .cell3 .ensures .0, b2 .cell2 .ensures .0, b3 .cell .ensures .0)
 
 pub joins-spec : {M : Type 1} → statement M
 joins-spec =

@@ -37,7 +37,14 @@ precedes-requires c κs = search needs
 
 returns : tie.Need-returns
 unfolding linkOk
-returns c = simp (c .precedes .ensures, c .before .cell6 .ensures .0, c .before .before .cell5 .ensures .0, c .before .before .before .cell4 .ensures .0, c .before .before .before .before .cell3 .ensures .0, c .before .before .before .before .before .joins .ensures, c .before .before .before .before .before .before .cell2 .ensures .0, c .before .before .before .before .before .before .before .cell .ensures .0)
+returns c =
+    let b2 = c .before .before in
+    let b3 = b2 .before in
+    let b4 = b3 .before in
+    let b5 = b4 .before in
+    let b6 = b5 .before in
+    let b7 = b6 .before in
+    simp (c .precedes .ensures, c .before .cell6 .ensures .0, b2 .cell5 .ensures .0, b3 .cell4 .ensures .0, b4 .cell3 .ensures .0, b5 .joins .ensures, b6 .cell2 .ensures .0, b7 .cell .ensures .0)
 
 pub link-ok-spec : {M : Type 1} → statement M
 link-ok-spec =

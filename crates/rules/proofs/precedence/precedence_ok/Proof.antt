@@ -34,7 +34,8 @@ loop-again c = (omega arith, rw (allTo-more, ← c .before .before .loop .inv .1
 returns : tie.Need-returns Inv-loop μ-loop
 unfolding precedenceOk
 returns c =
-    let e : c .before .loop .l ≡ c .before .before .before .before .before .before .args .e = omega arith in
+    let b6 = c .before .before .before .before .before .before in
+    let e : c .before .loop .l ≡ b6 .args .e = omega arith in
     rw e at (c .before .loop .inv .1)
 
 pub precedence-ok-spec : {M : Type 1} → statement M

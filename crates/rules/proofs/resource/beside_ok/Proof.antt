@@ -34,7 +34,8 @@ loop-again c = (omega arith, rw (allTo-more, ← c .before .before .loop .inv .1
 returns : tie.Need-returns Inv-loop μ-loop
 unfolding besideOk
 returns c =
-    let e : c .before .loop .a ≡ c .before .before .before .before .before .args .b = omega arith in
+    let b5 = c .before .before .before .before .before in
+    let e : c .before .loop .a ≡ b5 .args .b = omega arith in
     rw e at (c .before .loop .inv .1)
 
 pub beside-ok-spec : {M : Type 1} → statement M

@@ -34,7 +34,8 @@ loop-again c = (omega arith, rw (allTo-more, ← c .before .before .loop .inv .1
 returns : tie.Need-returns Inv-loop μ-loop
 unfolding resourceOk
 returns c =
-    let e : c .before .loop .b ≡ c .before .before .before .before .before .args .n = omega arith in
+    let b5 = c .before .before .before .before .before in
+    let e : c .before .loop .b ≡ b5 .args .n = omega arith in
     rw e at (c .before .loop .inv .1)
 
 pub resource-ok-spec : {M : Type 1} → statement M

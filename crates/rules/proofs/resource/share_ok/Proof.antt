@@ -35,7 +35,15 @@ apart-requires-2 : tie.Need-apart-requires-2
 apart-requires-2 c κs = search needs
 
 returns-2 : tie.Need-returns-2
-returns-2 c = share-same _ _ _ _ _ _ (sym (c .before .before .before .before .before .before .before .before .cell .ensures .0) ∙ c .before .before .before .before .before .before .if1 .left ∙ c .before .before .before .before .before .before .before .cell2 .ensures .0) (simp (c .apart2 .ensures, c .before .cell6 .ensures .0, c .before .before .apart .ensures, c .before .before .before .cell5 .ensures .0, c .before .before .before .before .cell4 .ensures .0, c .before .before .before .before .before .cell3 .ensures .0))
+returns-2 c =
+    let b2 = c .before .before in
+    let b3 = b2 .before in
+    let b4 = b3 .before in
+    let b5 = b4 .before in
+    let b6 = b5 .before in
+    let b7 = b6 .before in
+    let b8 = b7 .before in
+    share-same _ _ _ _ _ _ (sym (b8 .cell .ensures .0) ∙ b6 .if1 .left ∙ b7 .cell2 .ensures .0) (simp (c .apart2 .ensures, c .before .cell6 .ensures .0, b2 .apart .ensures, b3 .cell5 .ensures .0, b4 .cell4 .ensures .0, b5 .cell3 .ensures .0))
 
 pub share-ok-spec : {M : Type 1} → statement M
 share-ok-spec =

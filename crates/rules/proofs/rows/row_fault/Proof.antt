@@ -30,7 +30,14 @@ or-else-requires-3 c κs = search needs
 
 returns : tie.Need-returns
 unfolding rowFault
-returns c = simp (c .or-else3 .ensures, c .before .or-else2 .ensures, c .before .before .or-else .ensures, c .before .before .before .fault-unless4 .ensures, c .before .before .before .before .finish .ensures, c .before .before .before .before .before .fault-unless3 .ensures, c .before .before .before .before .before .before .fault-unless2 .ensures, c .before .before .before .before .before .before .before .fault-unless .ensures)
+returns c =
+    let b2 = c .before .before in
+    let b3 = b2 .before in
+    let b4 = b3 .before in
+    let b5 = b4 .before in
+    let b6 = b5 .before in
+    let b7 = b6 .before in
+    simp (c .or-else3 .ensures, c .before .or-else2 .ensures, b2 .or-else .ensures, b3 .fault-unless4 .ensures, b4 .finish .ensures, b5 .fault-unless3 .ensures, b6 .fault-unless2 .ensures, b7 .fault-unless .ensures)
 
 pub row-fault-spec : {M : Type 1} → statement M
 row-fault-spec =

@@ -17,12 +17,20 @@ Inv-loop n k t starts insts times delays selection rows o₀ o = (o ≤ rows) ×
 abbrev μ-loop : tie.MeasureT-loop
 μ-loop n k t starts insts times delays selection rows o₀ o = rows - o
 
+abbrev b13 : tie.After-row-fault Inv-loop μ-loop → tie.Start Inv-loop μ-loop
+b13 c = c .before .before .before .before .before .before .before .before .before .before .before .before .before
+
 -- the fault of the row that a turn tests
 turn : (c : tie.After-row-fault Inv-loop μ-loop)
     → c .row-fault .result
-    ≡ rowFaultAt (c .before .before .before .before .before .before .before .before .before .before .before .before .before .args .k) (c .before .before .before .before .before .before .before .before .before .before .before .before .before .args .t) (c .before .before .before .before .before .before .before .before .before .before .before .before .before .args .starts .now) (c .before .before .before .before .before .before .before .before .before .before .before .before .before .args .insts .now) (c .before .before .before .before .before .before .before .before .before .before .before .before .before .args .times .now) (c .before .before .before .before .before .before .before .before .before .before .before .before .before .args .delays .now) (c .before .before .before .before .before .before .before .before .before .before .before .before .before .args .selection .now) (c .before .before .before .before .before .before .before .loop .o)
+    ≡ rowFaultAt (b13 c .args .k) (b13 c .args .t) (b13 c .args .starts .now) (b13 c .args .insts .now) (b13 c .args .times .now) (b13 c .args .delays .now) (b13 c .args .selection .now) (c .before .before .before .before .before .before .before .loop .o)
 unfolding rowFaultAt
-turn c = simp (c .row-fault .ensures, c .before .cell4 .ensures .0, c .before .before .cell3 .ensures .0, c .before .before .before .cell2 .ensures .0, c .before .before .before .before .selected .ensures, c .before .before .before .before .before .cell .ensures .0)
+turn c =
+    let b2 = c .before .before in
+    let b3 = b2 .before in
+    let b4 = b3 .before in
+    let b5 = b4 .before in
+    simp (c .row-fault .ensures, c .before .cell4 .ensures .0, b2 .cell3 .ensures .0, b3 .cell2 .ensures .0, b4 .selected .ensures, b5 .cell .ensures .0)
 
 loop-holds : tie.Need-loop-holds Inv-loop μ-loop
 unfolding first
@@ -51,7 +59,9 @@ row-fault-requires c κs = search needs
 
 returns : tie.Need-returns Inv-loop μ-loop
 unfolding rowsFault
-returns c = first-at _ _ _ _ (omega arith) (c .before .before .before .before .before .before .before .before .loop .inv .1) (turn (c .before)) (c .if1 .taken)
+returns c =
+    let b8 = c .before .before .before .before .before .before .before .before in
+    first-at _ _ _ _ (omega arith) (b8 .loop .inv .1) (turn (c .before)) (c .if1 .taken)
 
 add-o : tie.Need-add-o Inv-loop μ-loop
 add-o c = omega arith
@@ -60,12 +70,15 @@ loop-less : tie.Need-loop-less Inv-loop μ-loop
 loop-less c = omega arith
 
 loop-again : tie.Need-loop-again Inv-loop μ-loop
-loop-again c = (omega arith, first-more _ _ (c .before .before .before .before .before .before .before .before .loop .inv .1) ∙ sym (turn (c .before)) ∙ c .if1 .left)
+loop-again c =
+    let b8 = c .before .before .before .before .before .before .before .before in
+    (omega arith, first-more _ _ (b8 .loop .inv .1) ∙ sym (turn (c .before)) ∙ c .if1 .left)
 
 returns-2 : tie.Need-returns-2 Inv-loop μ-loop
 unfolding rowsFault
 returns-2 c =
-    let e : c .before .loop .o ≡ c .before .before .before .before .before .before .before .args .n = omega arith in
+    let b7 = c .before .before .before .before .before .before .before in
+    let e : c .before .loop .o ≡ b7 .args .n = omega arith in
     sym (rw e at (c .before .loop .inv .1))
 
 pub rows-fault-spec : {M : Type 1} → statement M

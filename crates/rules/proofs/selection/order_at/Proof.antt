@@ -31,7 +31,11 @@ selected-requires-2 : tie.Need-selected-requires-2
 selected-requires-2 c κs = search needs
 
 returns-2 : tie.Need-returns-2
-returns-2 c = order-behind _ _ _ _ (c .before .before .before .before .if1 .left) (simp (c .selected2 .ensures, c .before .selected .ensures, c .before .before .cell2 .ensures .0, c .before .before .before .cell .ensures .0))
+returns-2 c =
+    let b2 = c .before .before in
+    let b3 = b2 .before in
+    let b4 = b3 .before in
+    order-behind _ _ _ _ (b4 .if1 .left) (simp (c .selected2 .ensures, c .before .selected .ensures, b2 .cell2 .ensures .0, b3 .cell .ensures .0))
 
 pub order-at-spec : {M : Type 1} → statement M
 order-at-spec =

@@ -34,7 +34,8 @@ loop-again c = (omega arith, rw (allTo-more, ← c .before .before .loop .inv .1
 returns : tie.Need-returns Inv-loop μ-loop
 unfolding orderOk
 returns c =
-    let e : c .before .loop .i ≡ c .before .before .before .before .args .k = omega arith in
+    let b4 = c .before .before .before .before in
+    let e : c .before .loop .i ≡ b4 .args .k = omega arith in
     rw e at (c .before .loop .inv .1)
 
 pub order-ok-spec : {M : Type 1} → statement M

@@ -1,5 +1,5 @@
 -- The loop has added up what the instances passed cost.
-use Prim.Native.Nat.{_*_, _-_, _≤_}
+use Prim.Native.Nat.{_*_, _-_, _^_, _<_, _≤_}
 use mathlib.Core.Path.{_≡_}
 use native.Mathlib.Omega.{arith}
 use borrow.Author.Needs.{needs}
@@ -11,13 +11,13 @@ use Rattle.rules.proofs.selection.selection_cost.Statement.{statement}
 use Rattle.rules.proofs.selection.selection_cost.Tie as tie
 
 abbrev Inv-loop : tie.InvT-loop
-Inv-loop costs types selection k count sum₀ i₀ sum i = (i ≤ count) × (sum ≤ 65535 * i) × (sum ≡ sumTo (costAt costs types (selected selection)) i)
+Inv-loop costs types selection k count sum₀ i₀ sum i = (i ≤ count) × (sum ≤ 2 ^ 16 * i) × (sum ≡ sumTo (costAt costs types (selected selection)) i)
 
 abbrev μ-loop : tie.MeasureT-loop
 μ-loop costs types selection k count sum₀ i₀ sum i = count - i
 
 -- what an instance adds is at most a cost
-small : (c : tie.After-only Inv-loop μ-loop) → c .only .result ≤ 65535
+small : (c : tie.After-only Inv-loop μ-loop) → c .only .result < 2 ^ 16
 small c = let k = only-small (c .before .before .selected .result) (c .before .cell2 .result) in omega (arith, c .only .ensures, c .before .cell2 .ensures .1)
 
 loop-holds : tie.Need-loop-holds Inv-loop μ-loop
@@ -54,13 +54,17 @@ loop-less c = omega arith
 loop-again : tie.Need-loop-again Inv-loop μ-loop
 unfolding costAt
 loop-again c =
-    let l = c .before .before .before .before .before .loop .inv in
-    (omega arith, omega (arith, small c), rw (sumTo-more, ← l .2, c .only .ensures, c .before .cell2 .ensures .0, c .before .before .selected .ensures, c .before .before .before .cell .ensures .0))
+    let b2 = c .before .before in
+    let b3 = b2 .before in
+    let b5 = b3 .before .before in
+    let l = b5 .loop .inv in
+    (omega arith, omega (arith, small c), rw (sumTo-more, ← l .2, c .only .ensures, c .before .cell2 .ensures .0, b2 .selected .ensures, b3 .cell .ensures .0))
 
 returns : tie.Need-returns Inv-loop μ-loop
 unfolding selectionCost
 returns c =
-    let e : c .before .loop .i ≡ c .before .before .before .before .before .args .k = omega arith in
+    let b5 = c .before .before .before .before .before in
+    let e : c .before .loop .i ≡ b5 .args .k = omega arith in
     rw e at (c .before .loop .inv .2)
 
 pub selection-cost-spec : {M : Type 1} → statement M
