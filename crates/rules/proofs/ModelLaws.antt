@@ -76,6 +76,11 @@ module _ (copies : List ℕ) (y c : ℕ) (few : c < cell copies y) where
 
 -- ---- a quotient rounded up
 
+-- document 01's own example
+pub rounded-163 : roundedUp 163 55 ≡ 3
+unfolding roundedUp
+rounded-163 = refl
+
 pub rounded-small : (a b : ℕ) → (a + (b - 1)) / b ≤ a
 rounded-small a zero = omega (arith, div-zero (a + (0 - 1)))
 rounded-small zero (suc b) =

@@ -111,7 +111,7 @@ pub fn judged(job: Job, plan: Plan) -> Judged
     pass_or(fault, cost)
 }
 
-// The answer on a paper that could not be read.
+// The answer on a paper that could not be read; none that was read comes here.
 fn unread(answer: Reading) -> Judged
     ensures { λ r. ⌜ r ≡ ifRead answer (Refused 0 0) ⌝ }
 {
