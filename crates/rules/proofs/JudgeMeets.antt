@@ -216,17 +216,17 @@ passed-none (suc k) cost c e = absurd (let z : 0 ≡ 1 = ap isPass e in omega ar
 
 module _ (job plan : List ℕ) (c : ℕ) where
   -- a pass of two papers
-  both-read : (a b : Reading) → readJob job .answer ≡ a → readPlan plan .answer ≡ b → judge job plan ≡ Passed c
+  papers-read : (a b : Reading) → readJob job .answer ≡ a → readPlan plan .answer ≡ b → judge job plan ≡ Passed c
       → (a ≡ Read) × (b ≡ Read) × (judged (readJob job .job) (readPlan plan .plan) ≡ Passed c)
   unfolding judge ifRead
-  both-read Read Read ea eb e = (refl, refl, rw (ea, eb) at e)
-  both-read Read (Unread number paper) ea eb e = absurd (let z : 0 ≡ 1 = ap isPass (rw (ea, eb) at e) in omega arith)
-  both-read (Unread number paper) b ea eb e = absurd (let z : 0 ≡ 1 = ap isPass (rw ea at e) in omega arith)
+  papers-read Read Read ea eb e = (refl, refl, rw (ea, eb) at e)
+  papers-read Read (Unread number paper) ea eb e = absurd (let z : 0 ≡ 1 = ap isPass (rw (ea, eb) at e) in omega arith)
+  papers-read (Unread number paper) b ea eb e = absurd (let z : 0 ≡ 1 = ap isPass (rw ea at e) in omega arith)
 
   pass-meets : judge job plan ≡ Passed c → Passes job plan c
   unfolding judged
   pass-meets e =
-      let w = both-read (readJob job .answer) (readPlan plan .answer) refl refl e in
+      let w = papers-read (readJob job .answer) (readPlan plan .answer) refl refl e in
       let j : readJob job ≡ record { answer = Read; job = readJob job .job } = λ i. record { answer = w .0 i; job = readJob job .job } in
       let p : readPlan plan ≡ record { answer = Read; plan = readPlan plan .plan } = λ i. record { answer = w .1 i; plan = readPlan plan .plan } in
       let z = passed-none _ _ c (w .2) in

@@ -1,5 +1,5 @@
 -- Laws of the model: what the tables hold.
-use Prim.Native.Nat.{ℕ, zero, suc, _+_, _-_, _/_, _%_, _<_, _≤_, min}
+use Prim.Native.Nat.{ℕ, zero, suc, _+_, _-_, _*_, _/_, _%_, _<_, _≤_, min}
 use mathlib.Core.Path.{_≡_, refl, sym, ap, _∙_}
 use mathlib.Core.List.{List}
 use native.Mathlib.Decide.{decLt}
@@ -14,7 +14,7 @@ use Rattle.basics.proofs.CountLaws.{sumTo-below, sumTo-rises}
 use Rattle.basics.proofs.TableLaws.{length-cells, cell-cells, cell-unused, cells-cong}
 use Rattle.sheets.specs.Limits.{instCells, opCells, pairCells}
 use Rattle.sheets.specs.declared.Job.{Job}
-use Rattle.rules.specs.Model.{behind, typeAt, typesIn, typesOf, spanOf, roundedUp, stepsAt, rowAt, rowTable, timingIn, unitCells, unitAt, unitTable, tablesOf}
+use Rattle.rules.specs.Model.{behind, typeAt, typesIn, typesOf, spanOf, inSteps, stepsAt, rowAt, rowTable, timingIn, unitCells, unitAt, unitTable, tablesOf}
 use Rattle.rules.specs.declared.Tables.{Tables}
 use Rattle.rules.specs.declared.Timing.{Timing}
 
@@ -77,8 +77,8 @@ module _ (copies : List ℕ) (y c : ℕ) (few : c < cell copies y) where
 -- ---- a quotient rounded up
 
 -- document 01's own example
-pub rounded-163 : roundedUp 163 55 ≡ 3
-unfolding roundedUp
+pub rounded-163 : inSteps 55 163 ≡ 3
+unfolding inSteps
 rounded-163 = refl
 
 pub rounded-small : (a b : ℕ) → (a + (b - 1)) / b ≤ a
@@ -92,44 +92,44 @@ rounded-small (suc a) (suc b) = div-le-of-le-mul (suc b) (omega arith)
 -- ---- a table in steps
 
 -- of a table that a function fills
-steps-table : (f : ℕ → ℕ) (clock n : ℕ) (g : ℕ → ℕ) → ((c : ℕ) → g c ≡ roundedUp (f c) clock) → cells (stepsAt (cells f n n) clock) n n ≡ cells g n n
+steps-table : (f : ℕ → ℕ) (clock n : ℕ) (g : ℕ → ℕ) → ((c : ℕ) → g c ≡ inSteps clock (f c)) → cells (stepsAt clock (cells f n n)) n n ≡ cells g n n
 steps-table f clock n g h =
-    cells-cong (stepsAt (cells f n n) clock) g n n (λ c l. ap (λ (x : ℕ). roundedUp x clock) (cell-cells f n n c l (omega arith)) ∙ sym (h c))
+    cells-cong (stepsAt clock (cells f n n)) g n n (λ c l. ap (inSteps clock) (cell-cells f n n c l (omega arith)) ∙ sym (h c))
 
 -- of a table of so many cells, behind which nothing takes any step
-steps-cell : (spans : List ℕ) (clock n : ℕ) → length spans ≡ n → (c : ℕ) → cell (cells (stepsAt spans clock) n n) c ≡ roundedUp (cell spans c) clock
-unfolding roundedUp
+steps-cell : (spans : List ℕ) (clock n : ℕ) → length spans ≡ n → (c : ℕ) → cell (cells (stepsAt clock spans) n n) c ≡ inSteps clock (cell spans c)
+unfolding inSteps
 steps-cell spans clock n e c =
     elim (decLt c n) [
-      | yes l ↦ cell-cells (stepsAt spans clock) n n c l (omega arith)
+      | yes l ↦ cell-cells (stepsAt clock spans) n n c l (omega arith)
       | no l ↦
           let z : cell spans c ≡ 0 = List·getD-eq-default spans 0 (omega arith) in
           let s = rounded-small 0 clock in
-          cell-unused (stepsAt spans clock) n n c (omega arith) ∙ rw z (omega arith)
+          cell-unused (stepsAt clock spans) n n c (omega arith) ∙ rw z (omega arith)
     ]
 
 -- ---- what is made of a job
 
 pub timing-is : (types : List ℕ) (clock : ℕ) (kinds times intervals insts : List ℕ) (rowTimes rowIntervals delays spacings : List ℕ)
     → rowTimes ≡ rowTable (spanOf types kinds times) insts → rowIntervals ≡ rowTable (spanOf types kinds intervals) insts
-    → delays ≡ cells (stepsAt rowTimes clock) opCells opCells → spacings ≡ cells (stepsAt rowIntervals clock) opCells opCells
+    → delays ≡ cells (stepsAt clock rowTimes) opCells opCells → spacings ≡ cells (stepsAt clock rowIntervals) opCells opCells
     → _≡_ {A = Timing} (record { times = rowTimes; delays = delays; spacings = spacings }) (timingIn types clock kinds times intervals insts)
 unfolding timingIn
 timing-is types clock kinds times intervals insts rowTimes rowIntervals delays spacings a b d s =
-    let d' = d ∙ ap (λ (t : List ℕ). cells (stepsAt t clock) opCells opCells) a ∙ steps-table (rowAt (spanOf types kinds times) insts) clock opCells _ (λ c. refl) in
-    let s' = s ∙ ap (λ (t : List ℕ). cells (stepsAt t clock) opCells opCells) b ∙ steps-table (rowAt (spanOf types kinds intervals) insts) clock opCells _ (λ c. refl) in
+    let d' = d ∙ ap (λ (t : List ℕ). cells (stepsAt clock t) opCells opCells) a ∙ steps-table (rowAt (spanOf types kinds times) insts) clock opCells _ (λ c. refl) in
+    let s' = s ∙ ap (λ (t : List ℕ). cells (stepsAt clock t) opCells opCells) b ∙ steps-table (rowAt (spanOf types kinds intervals) insts) clock opCells _ (λ c. refl) in
     λ i. record { times = a i; delays = d' i; spacings = s' i }
 
 -- a table of spans in steps, over spans in steps
-unit-steps : (types kinds pairs : List ℕ) (clock : ℕ) (f : ℕ → ℕ → ℕ) → length pairs ≡ pairCells → ((o i : ℕ) → f o i ≡ roundedUp (spanOf types kinds pairs o i) clock)
-    → unitTable (spanOf types kinds (cells (stepsAt pairs clock) pairCells pairCells)) ≡ unitTable f
+unit-steps : (types kinds pairs : List ℕ) (clock : ℕ) (f : ℕ → ℕ → ℕ) → length pairs ≡ pairCells → ((o i : ℕ) → f o i ≡ inSteps clock (spanOf types kinds pairs o i))
+    → unitTable (spanOf types kinds (cells (stepsAt clock pairs) pairCells pairCells)) ≡ unitTable f
 unit-steps types kinds pairs clock f e h =
     cells-cong _ (unitAt f) unitCells unitCells (λ c l. steps-cell pairs clock pairCells e _ ∙ sym (h (c / instCells) (c % instCells)))
 
 pub tables-are : (j : Job) (types delays spacings times' delays' spacings' : List ℕ)
     → length (j .times) ≡ pairCells → length (j .intervals) ≡ pairCells
     → types ≡ typesOf j
-    → delays ≡ cells (stepsAt (j .times) (j .clock)) pairCells pairCells → spacings ≡ cells (stepsAt (j .intervals) (j .clock)) pairCells pairCells
+    → delays ≡ cells (stepsAt (j .clock) (j .times)) pairCells pairCells → spacings ≡ cells (stepsAt (j .clock) (j .intervals)) pairCells pairCells
     → times' ≡ unitTable (spanOf types (j .kinds) (j .times)) → delays' ≡ unitTable (spanOf types (j .kinds) delays) → spacings' ≡ unitTable (spanOf types (j .kinds) spacings)
     → _≡_ {A = Tables} (record { times = times'; delays = delays'; spacings = spacings' }) (tablesOf j)
 unfolding tablesOf
@@ -138,3 +138,10 @@ tables-are j types delays spacings times' delays' spacings' lt li t d s et ed es
     let d' = (rw (t, d) at ed) ∙ unit-steps (typesOf j) (j .kinds) (j .times) (j .clock) _ lt (λ o i. refl) in
     let s' = (rw (t, s) at es) ∙ unit-steps (typesOf j) (j .kinds) (j .intervals) (j .clock) _ li (λ o i. refl) in
     λ i. record { times = t' i; delays = d' i; spacings = s' i }
+
+-- a table over every operation and instance, read
+pub unit-cell : (f : ℕ → ℕ → ℕ) (o i : ℕ) → o < opCells → i < instCells → cell (unitTable f) (instCells * o + i) ≡ f o i
+unit-cell f o i lo li =
+    let q : (instCells * o + i) / instCells ≡ o = omega arith in
+    let r : (instCells * o + i) % instCells ≡ i = omega arith in
+    cell-cells (unitAt f) unitCells unitCells (instCells * o + i) (omega arith) (omega arith) ∙ rw (q, r)

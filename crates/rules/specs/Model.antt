@@ -46,20 +46,19 @@ timeOf j o i = spanOf (typesOf j) (j .kinds) (j .times) o i
 abbrev pub intervalOf : Job → ℕ → ℕ → ℕ
 intervalOf j o i = spanOf (typesOf j) (j .kinds) (j .intervals) o i
 
--- a / b, rounded up
-unfoldable pub roundedUp : ℕ → ℕ → ℕ
-roundedUp a b = (a + (b - 1)) / b
+-- a span of ns in steps of the clock: their quotient, rounded up
+unfoldable pub inSteps : ℕ → ℕ → ℕ
+inSteps clock span = (span + (clock - 1)) / clock
 
--- span c of a table, in steps
-abbrev pub stepsAt : List ℕ → ℕ → ℕ → ℕ
-stepsAt spans clock c = roundedUp (cell spans c) clock
+abbrev pub stepsOf : ℕ → (ℕ → ℕ → ℕ) → ℕ → ℕ → ℕ
+stepsOf clock span o i = inSteps clock (span o i)
 
--- its delay and its spacing, in steps
+-- operation o's delay on instance i, and its spacing
 abbrev pub delayOf : Job → ℕ → ℕ → ℕ
-delayOf j o i = roundedUp (timeOf j o i) (j .clock)
+delayOf j o i = stepsOf (j .clock) (timeOf j) o i
 
 abbrev pub spacingOf : Job → ℕ → ℕ → ℕ
-spacingOf j o i = roundedUp (intervalOf j o i) (j .clock)
+spacingOf j o i = stepsOf (j .clock) (intervalOf j) o i
 
 -- ---- the same for every operation on the instance that a row gives it
 
@@ -70,10 +69,7 @@ rowAt of insts o = of o (cell insts o)
 abbrev pub rowTable : (ℕ → ℕ → ℕ) → List ℕ → List ℕ
 rowTable of insts = cells (rowAt of insts) opCells opCells
 
--- a span in steps
-abbrev pub stepsOf : ℕ → (ℕ → ℕ → ℕ) → ℕ → ℕ → ℕ
-stepsOf clock of o i = roundedUp (of o i) clock
-
+-- times, delays and spacings
 unfoldable pub timingIn : List ℕ → ℕ → List ℕ → List ℕ → List ℕ → List ℕ → Timing
 timingIn types clock kinds times intervals insts =
     record {
@@ -85,10 +81,14 @@ timingIn types clock kinds times intervals insts =
 abbrev pub timingOf : Job → List ℕ → Timing
 timingOf j insts = timingIn (typesOf j) (j .clock) (j .kinds) (j .times) (j .intervals) insts
 
--- ---- the same for every operation on every instance: operation o on instance i has cell instCells * o + i
+-- ---- the same for every operation on every instance: operation o on instance i has cell instCells * o + i (`unit-cell`)
 
 abbrev pub unitCells : ℕ
 unitCells = opCells * instCells
+
+-- cell c of a table in steps
+abbrev pub stepsAt : ℕ → List ℕ → ℕ → ℕ
+stepsAt clock spans c = inSteps clock (cell spans c)
 
 -- cell c of a table of `of o i`
 abbrev pub unitAt : (ℕ → ℕ → ℕ) → ℕ → ℕ

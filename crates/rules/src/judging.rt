@@ -6,8 +6,8 @@ use crate::Judged;
 use crate::Timing;
 use crate::chains::chains_ok;
 use crate::model::inst_count;
-use crate::model::timing_of;
-use crate::model::types_of;
+use crate::model::timing_in;
+use crate::model::types_in;
 use crate::precedence::precedence_ok;
 use crate::resource::resource_ok;
 use crate::rows::rows_fault;
@@ -72,9 +72,10 @@ fn pass_or(fault: u32, cost: u32) -> Judged
 pub fn judged(job: Job, plan: Plan) -> Judged
     ensures { λ r. ⌜ r ≡ judgedBy job plan ⌝ }
 {
+    let n = job.n;
     let k = inst_count(&job.copies, job.m);
-    let types = types_of(&job.copies, job.m);
-    let timing = timing_of(
+    let types = types_in(&job.copies, job.m);
+    let timing = timing_in(
         &types,
         job.clock,
         &job.kinds,
@@ -82,10 +83,10 @@ pub fn judged(job: Job, plan: Plan) -> Judged
         &job.intervals,
         &plan.insts,
     );
-    let counts = counts_fault(plan.n, plan.k, job.n, k);
+    let counts = counts_fault(plan.n, plan.k, n, k);
     let order = order_ok(&types, &plan.selection, k);
     let rows = rows_fault(
-        job.n,
+        n,
         k,
         job.t,
         &plan.starts,
@@ -95,7 +96,7 @@ pub fn judged(job: Job, plan: Plan) -> Judged
         &plan.selection,
     );
     let placing = placing_fault(
-        job.n,
+        n,
         job.e,
         job.wire,
         job.clock,
@@ -107,6 +108,7 @@ pub fn judged(job: Job, plan: Plan) -> Judged
     );
     let ordered = fault_unless(order, basics::ORDER_BROKEN);
     let fault = or_else(counts, or_else(ordered, or_else(rows, placing)));
+    // plan.k is k where the plan passes, and its 16 bits keep the sum in range
     let cost = selection_cost(&job.costs, &types, &plan.selection, plan.k);
     pass_or(fault, cost)
 }

@@ -7,8 +7,15 @@ use Rattle.rules.proofs.ModelLaws.{types-counted}
 use Rattle.rules.proofs.judging.judged.Statement.{statement}
 use Rattle.rules.proofs.judging.judged.Tie as tie
 
+-- where the types are at hand, and where the function starts
+abbrev b46 : tie.After-or-else3 → tie.After-types-in
+b46 c =
+    let b15 = c .before .before .before .before .before .before .before .before .before .before .before .before .before .before .before in
+    let b28 = b15 .before .before .before .before .before .before .before .before .before .before .before .before .before in
+    b28 .before .before .before .before .before .before .before .before .before .before .before .before .before .before .before .before .before .before
+
 abbrev b54 : tie.After-or-else3 → tie.Start
-b54 c = c .before .before .before .before .before .before .before .before .before .before .before .before .before .before .before .before .before .before .before .before .before .before .before .before .before .before .before .before .before .before .before .before .before .before .before .before .before .before .before .before .before .before .before .before .before .before .before .before .before .before .before .before .before .before
+b54 c = b46 c .before .before .before .before .before .before .before .before
 
 -- the first fault
 fault : (c : tie.After-or-else3) → c .or-else3 .result ≡ judgeFault (b54 c .args .t1) (b54 c .args .t2)
@@ -17,22 +24,21 @@ fault c =
     let b15 = b4 .before .before .before .before .before .before .before .before .before .before .before in
     let b28 = b15 .before .before .before .before .before .before .before .before .before .before .before .before .before in
     let b34 = b28 .before .before .before .before .before .before in
-    let b46 = b34 .before .before .before .before .before .before .before .before .before .before .before .before in
-    let b50 = b46 .before .before .before .before in
-    fault-is _ _ _ _ _ _ _ _ _ _ _ (b50 .inst-count .ensures) (b46 .types-of .ensures) (b34 .timing-of .ensures) (b28 .before .before .before .before .before .counts-fault .ensures) (b28 .order-ok .ensures)
+    let b50 = b46 c .before .before .before .before in
+    fault-is _ _ _ _ _ _ _ _ _ _ _ (b50 .inst-count .ensures) (b46 c .types-in .ensures) (b34 .timing-in .ensures) (b28 .before .before .before .before .before .counts-fault .ensures) (b28 .order-ok .ensures)
     (b15 .rows-fault .ensures) (b4 .placing-fault .ensures) (c .before .before .before .fault-unless .ensures) (rw (c .or-else3 .ensures, c .before .or-else2 .ensures, c .before .before .or-else .ensures))
 
 inst-count-requires : tie.Need-inst-count-requires
 inst-count-requires c κs = search needs
 
-types-of-requires : tie.Need-types-of-requires
-types-of-requires c κs = search needs
+types-in-requires : tie.Need-types-in-requires
+types-in-requires c κs = search needs
 
-slice-aggregate-timing-of : tie.Need-slice-aggregate-timing-of
-slice-aggregate-timing-of c = search needs
+slice-aggregate-timing-in : tie.Need-slice-aggregate-timing-in
+slice-aggregate-timing-in c = search needs
 
-timing-of-requires : tie.Need-timing-of-requires
-timing-of-requires c κs = search needs
+timing-in-requires : tie.Need-timing-in-requires
+timing-in-requires c κs = search needs
 
 counts-fault-requires : tie.Need-counts-fault-requires
 counts-fault-requires c κs = search needs
@@ -62,9 +68,7 @@ or-else-requires-3 : tie.Need-or-else-requires-3
 or-else-requires-3 c κs = search needs
 
 slice-aggregate-selection-cost : tie.Need-slice-aggregate-selection-cost
-slice-aggregate-selection-cost c =
-    let b50 = c .before .before .before .before .before .before .before .before .before .before .before .before .before .before .before .before .before .before .before .before .before .before .before .before .before .before .before .before .before .before .before .before .before .before .before .before .before .before .before .before .before .before .before .before .before .before .before .before .before .before in
-    types-counted _ _ _ (b50 .types-of .ensures)
+slice-aggregate-selection-cost c = types-counted _ _ _ (b46 (c .before .before .before .before) .types-in .ensures)
 
 selection-cost-requires : tie.Need-selection-cost-requires
 selection-cost-requires c κs = search needs
@@ -75,17 +79,16 @@ pass-or-requires c κs = search needs
 returns : tie.Need-returns
 returns c =
     let b9 = c .before .before .before .before .before .before .before .before .before in
-    let b55 = b9 .before .before .before .before .before .before .before .before .before .before .before .before .before .before .before .before .before .before .before .before .before .before .before .before .before .before .before .before .before .before .before .before .before .before .before .before .before .before .before .before .before .before .before .before .before .before in
-    judged-is _ _ _ _ _ (fault b9) (rw (b55 .types-of .ensures) at (c .before .selection-cost .ensures)) (c .pass-or .ensures)
+    judged-is _ _ _ _ _ (fault b9) (rw (b46 b9 .types-in .ensures) at (c .before .selection-cost .ensures)) (c .pass-or .ensures)
 
 pub judged-spec : {M : Type 1} → statement M
 judged-spec =
     tie.close
     (tie.spec
     inst-count-requires
-    types-of-requires
-    slice-aggregate-timing-of
-    timing-of-requires
+    types-in-requires
+    slice-aggregate-timing-in
+    timing-in-requires
     counts-fault-requires
     slice-aggregate-order-ok
     order-ok-requires

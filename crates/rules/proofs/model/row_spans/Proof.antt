@@ -23,29 +23,11 @@ loop-holds c = search needs
 cell-requires : tie.Need-cell-requires Inv-loop μ-loop
 cell-requires c κs = search needs
 
-cast-cell : tie.Need-cast-cell Inv-loop μ-loop
-cast-cell c = omega arith
+cast-span-of : tie.Need-cast-span-of Inv-loop μ-loop
+cast-span-of c = omega arith
 
-cell-requires-2 : tie.Need-cell-requires-2 Inv-loop μ-loop
-cell-requires-2 c κs = search needs
-
-cast-cell-2 : tie.Need-cast-cell-2 Inv-loop μ-loop
-cast-cell-2 c = omega arith
-
-mul-cell : tie.Need-mul-cell Inv-loop μ-loop
-mul-cell c = omega arith
-
-cell-requires-3 : tie.Need-cell-requires-3 Inv-loop μ-loop
-cell-requires-3 c κs = search needs
-
-cast-cell-3 : tie.Need-cast-cell-3 Inv-loop μ-loop
-cast-cell-3 c = omega arith
-
-add-cell : tie.Need-add-cell Inv-loop μ-loop
-add-cell c = omega arith
-
-cell-requires-4 : tie.Need-cell-requires-4 Inv-loop μ-loop
-cell-requires-4 c κs = search needs
+span-of-requires : tie.Need-span-of-requires Inv-loop μ-loop
+span-of-requires c κs = search needs
 
 mul-spans : tie.Need-mul-spans Inv-loop μ-loop
 mul-spans c = omega arith
@@ -60,12 +42,7 @@ loop-less : tie.Need-loop-less Inv-loop μ-loop
 loop-less c = omega arith
 
 loop-again : tie.Need-loop-again Inv-loop μ-loop
-loop-again c =
-    let b2 = c .before .before in
-    let b3 = b2 .before in
-    let b5 = b3 .before .before in
-    let l = b5 .loop .inv in
-    (omega arith, rw (filled-more, ← l .1, c .cell4 .ensures .0, c .before .cell3 .ensures .0, b2 .cell2 .ensures .0, b3 .cell .ensures .0))
+loop-again c = (omega arith, rw (filled-more, ← c .before .before .before .loop .inv .1, c .span-of .ensures .0, c .before .cell .ensures .0))
 
 returns : tie.Need-returns Inv-loop μ-loop
 returns c =
@@ -80,14 +57,8 @@ row-spans-spec =
     μ-loop
     loop-holds
     cell-requires
-    cast-cell
-    cell-requires-2
-    cast-cell-2
-    mul-cell
-    cell-requires-3
-    cast-cell-3
-    add-cell
-    cell-requires-4
+    cast-span-of
+    span-of-requires
     mul-spans
     array-write-spans
     add-o

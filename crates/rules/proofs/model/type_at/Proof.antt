@@ -8,8 +8,8 @@ use Rattle.basics.specs.Tables.{cell}
 use Rattle.basics.proofs.CountLaws.{only-small, sumTo-more}
 use Rattle.rules.specs.Model.{behind, typeAt}
 use Rattle.rules.proofs.ModelLaws.{behind-is}
-use Rattle.rules.proofs.model.type_of.Statement.{statement}
-use Rattle.rules.proofs.model.type_of.Tie as tie
+use Rattle.rules.proofs.model.type_at.Statement.{statement}
+use Rattle.rules.proofs.model.type_at.Tie as tie
 
 abbrev Inv-loop : tie.InvT-loop
 Inv-loop copies m i types sum₀ passed₀ y₀ sum passed y = (y ≤ types) × (passed ≤ y) × (sum ≤ 2 ^ 16 * y) × (sum ≡ sumTo (cell copies) y) × (passed ≡ sumTo (behind copies i) y)
@@ -65,8 +65,8 @@ returns c =
     let e : c .before .loop .y ≡ c .before .before .before .args .m = omega arith in
     (rw e at (c .before .loop .inv .4), omega arith)
 
-pub type-of-spec : {M : Type 1} → statement M
-type-of-spec =
+pub type-at-spec : {M : Type 1} → statement M
+type-at-spec =
     tie.close
     (tie.spec
     Inv-loop
