@@ -45,7 +45,7 @@ length-cells f n size = length-filled (replicate size 0) f n ∙ length-replicat
 pub cell-cells : (f : ℕ → ℕ) (n size i : ℕ) → i < n → n ≤ size → cell (cells f n size) i ≡ f i
 cell-cells f n size i h q = cell-filled (replicate size 0) f n i h (rw length-replicate q)
 
-cell-replicate : (size i : ℕ) → cell (replicate size 0) i ≡ 0
+pub cell-replicate : (size i : ℕ) → cell (replicate size 0) i ≡ 0
 cell-replicate zero i = refl
 cell-replicate (suc size) zero = refl
 cell-replicate (suc size) (suc i) = cell-replicate size i

@@ -9,9 +9,10 @@ use native.Mathlib.Nat.{le-max-left, le-max-right}
 use native.Mathlib.Omega.{arith}
 use borrow.Author.Tests.{leb-true, ltb-true, eqb-true, le-leb, lt-ltb, eq-eqb}
 use lib.Dec.{eqb}
-use lib.ListN.{length, replicate, length-replicate, getD-replicate, List·getD-eq-default}
+use lib.ListN.{length}
 use Rattle.basics.specs.Tables.{cell}
 use Rattle.basics.proofs.CountLaws.{and-both, both-and, allTo-each, each-allTo}
+use Rattle.basics.proofs.TableLaws.{cell-replicate}
 use Rattle.sheets.specs.Limits.{opCells}
 use Rattle.sheets.specs.declared.Job.{Job}
 use Rattle.sheets.proofs.RecordLaws.{JobSound}
@@ -135,11 +136,7 @@ module _ (j : Job) (sound : JobSound j) (starts times : List ℕ) where
 
   nothing : (o : ℕ) → cell (table 0) o ≡ 0
   unfolding broughtBy
-  nothing o =
-      elim (decLt o opCells) [
-        | yes l ↦ getD-replicate {A = ℕ} opCells o 0 0 l
-        | no l ↦ List·getD-eq-default {A = ℕ} (replicate opCells 0) 0 {n = o} (omega (arith, length-replicate {A = ℕ} opCells 0))
-      ]
+  nothing o = cell-replicate opCells o
 
   -- all that the first l links bring to o is within the clock, with any run on from o
   abbrev BringsFit : ℕ → ℕ → Type 0

@@ -18,10 +18,6 @@ use Rattle.rules.specs.Model.{behind, typeAt, typesIn, typesOf, spanOf, 
 use Rattle.rules.specs.declared.Tables.{Tables}
 use Rattle.rules.specs.declared.Timing.{Timing}
 
-sumTo-suc : (f : ℕ → ℕ) (n : ℕ) → sumTo f (suc n) ≡ sumTo f n + f n
-unfolding sumTo
-sumTo-suc f n = refl
-
 pub behind-is : (copies : List ℕ) (i y : ℕ) → behind copies i y ≡ only (leb (sumTo (cell copies) y + cell copies y) i) 1
 unfolding behind sumTo
 behind-is copies i y = refl
@@ -61,8 +57,8 @@ module _ (copies : List ℕ) (y c : ℕ) (few : c < cell copies y) where
   behind-before z l = rw (le-leb (sumTo (cell copies) (suc z)) place (omega (arith, sumTo-rises (cell copies) (suc z) y l)))
 
   behind-after : (z : ℕ) → y ≤ z → behind copies place z ≡ 0
-  unfolding behind only
-  behind-after z l = rw (lt-leb (sumTo (cell copies) (suc z)) place (omega (arith, sumTo-rises (cell copies) (suc y) (suc z) (omega arith), sumTo-suc (cell copies) y)))
+  unfolding behind only sumTo
+  behind-after z l = rw (lt-leb (sumTo (cell copies) (suc z)) place (omega (arith, sumTo-rises (cell copies) (suc y) (suc z) (omega arith))))
 
   behind-count : (m : ℕ) → sumTo (behind copies place) m ≡ min m y
   unfolding sumTo

@@ -1,18 +1,21 @@
 -- Laws of a job's rules and of its reader: what no fault means, and the answer from the faults found.
 use Prim.Native.Nat.{ℕ, zero, suc, _-_, _≤_}
-use mathlib.Core.Path.{_≡_, refl}
+use mathlib.Core.Path.{_≡_, refl, _∙_}
 use mathlib.Core.Bool.{_&&_, _||_}
 use mathlib.Core.List.{List}
 use native.Mathlib.Omega.{arith}
 use borrow.Author.Tests.{leb-true}
 use lib.Dec.{ltb, eqb, lit<}
+use lib.ListN.{length}
+use Rattle.basics.specs.Faults.{_orElse_, first}
 use Rattle.basics.specs.Numbers.{outsideLimit}
 use Rattle.basics.specs.Tables.{cell}
 use Rattle.basics.proofs.CountLaws.{and-both}
 use Rattle.basics.proofs.FaultLaws.{orElse-none, unless-none}
 use Rattle.sheets.specs.Limits.{maxOps, maxLinks, maxTypes, maxTime}
+use Rattle.sheets.specs.Groups.{runsOut, fillFault}
 use Rattle.sheets.specs.JobRecord.{jobCountsFault, ascends}
-use Rattle.sheets.specs.JobSheet.{nIn, eIn, mIn, clockIn, jobIn, jobHeadFault, jobFault, jobRefused, jobAnswer, readJob}
+use Rattle.sheets.specs.JobSheet.{linksAt, typesAt, jobEnd, nIn, eIn, mIn, clockIn, jobIn, jobHeadFault, linkGroup, typeGroup, jobTablesFault, jobBodyFault, jobFault, jobRefused, jobAnswer, readJob}
 use Rattle.sheets.specs.declared.Job.{Job}
 use Rattle.sheets.specs.declared.JobRead.{JobRead}
 use Rattle.sheets.specs.declared.Reading.the-variants.{Read}
@@ -61,3 +64,10 @@ job-refused s (suc k) r w e q = rw (← e) w
 pub job-read : (s : List ℕ) (j : Job) → jobFault s ≡ 0 → j ≡ jobIn s → _≡_ {A = JobRead} (record { answer = Read; job = j }) (readJob s)
 unfolding readJob jobAnswer
 job-read s j e w = rw (e, w)
+
+-- the faults behind a header, found one by one
+pub job-body : (s : List ℕ) (j : Job) (tables body : ℕ)
+    → tables ≡ first (linkGroup (length s) (j .from) (j .to) (j .n)) (j .e) orElse first (typeGroup (length s) (typesAt (j .n) (j .e)) (j .copies) (j .times) (j .intervals)) (j .m)
+    → body ≡ runsOut (length s) (linksAt (j .n)) orElse tables orElse fillFault s (jobEnd (j .n) (j .e) (j .m)) → body ≡ jobBodyFault s j
+unfolding jobBodyFault jobTablesFault
+job-body s j tables body t e = e ∙ rw t

@@ -164,12 +164,6 @@ plan-written-read s p hs e =
     let r = read-plan s p e in
     rw (r .1) (sheet-again s (r .0) hs, record-none s (r .0))
 
--- what a plan that is read keeps
-pub plan-sound : (s : List ℕ) (p : Plan) → readPlan s ≡ record { answer = Read; plan = p } → PlanSound p
-plan-sound s p e =
-    let r = read-plan s p e in
-    rw (r .1) (none-plan (planIn s) (record-none s (r .0)))
-
 -- ---- the same of the entries' promises
 
 -- what the writer has written is read as the record

@@ -3,14 +3,15 @@ ghost use mathlib.Core.Path.{_≡_};
 ghost use Prim.Native.Nat.{_+_, _*_, _^_, _≤_, _<_};
 ghost use lib.ListN.{length};
 ghost use Rattle.basics.specs.Counting.{allTo, sumTo};
-ghost use Rattle.basics.specs.Faults.{first};
+ghost use Rattle.basics.specs.Faults.{_orElse_, first};
 ghost use Rattle.basics.specs.Tables.{cell as cellOf};
 ghost use Rattle.basics.specs.Answers.{Promise};
 ghost use Rattle.bits.specs.Bits.{Bytes};
 ghost use Rattle.bits.specs.Sheet.{many, putAll};
 ghost use Rattle.sheets.specs.Limits.{kindCount, maxOps, maxLinks, maxTypes, maxSteps, maxTime, tAt, jobHead, typeBits};
+ghost use Rattle.sheets.specs.Groups.{runsOut, fillFault};
 ghost use Rattle.sheets.specs.JobRecord.{JobShape, jobCountsFault, ascends as ascendsAt, linkFault, pairOk, pairSound, typeFault, graphBlank, unitsBlank, jobFits, jobRecordFault};
-ghost use Rattle.sheets.specs.JobSheet.{jobOf, jobIn, linksAt, typesAt, jobEnd, jobHeadFault, linkGroup, typeGroup, jobTablesFault, jobBodyFault, jobRefused, readJob, jobCountFields, jobTimeFields, jobHeadFields, typeFields, graphFields, unitFields, TypesFit, writeJob, jobOut};
+ghost use Rattle.sheets.specs.JobSheet.{jobOf, jobIn, linksAt, typesAt, jobEnd, jobHeadFault, linkGroup, typeGroup, jobRefused, readJob, jobCountFields, jobTimeFields, jobHeadFields, typeFields, graphFields, unitFields, TypesFit, writeJob, jobOut};
 use crate::Job;
 use crate::JobRead;
 use crate::Reading;
@@ -183,30 +184,32 @@ fn job_head_fault(s: &[u8]) -> u32
     or_else(form_fault(s, JOB_FORM), rest)
 }
 
-// The first fault of links and types of the job j, in a sheet of so many bytes.
-fn job_tables_fault(bytes: usize, j: Job) -> u32
-    ensures { λ r. ⌜ r ≡ jobTablesFault bytes j ⌝ }
+// The first fault of links and types, in a sheet of so many bytes.
+fn job_tables_fault<'a>(
+    bytes: usize,
+    n: u16,
+    e: u16,
+    m: u16,
+    from: &'a [u16],
+    to: &'a [u16],
+    copies: &'a [u16],
+    times: &'a [u16],
+    intervals: &'a [u16],
+) -> u32
+    ensures { λ r. ⌜ r ≡ first (linkGroup bytes (now (from .entry)) (now (to .entry)) n) e orElse first (typeGroup bytes (typesAt n e) (now (copies .entry)) (now (times .entry)) (now (intervals .entry))) m ⌝ }
 {
-    let from = j.from;
-    let to = j.to;
-    let copies = j.copies;
-    let times = j.times;
-    let intervals = j.intervals;
-    let at = types_at(j.n, j.e);
-    let links = links_fault(bytes, &from, &to, j.n, j.e);
-    or_else(
-        links,
-        types_fault(bytes, at, &copies, &times, &intervals, j.m),
-    )
+    let at = types_at(n, e);
+    let links = links_fault(bytes, from, to, n, e);
+    or_else(links, types_fault(bytes, at, copies, times, intervals, m))
 }
 
-// The first fault behind the header, in a sheet that spells the job j.
-fn job_body_fault(s: &[u8], j: Job) -> u32
-    ensures { λ r. ⌜ r ≡ jobBodyFault (now (s .entry)) j ⌝ }
+// The first fault behind the header of a job with these counts, where `tables` is that of its links and types.
+fn job_body_fault(s: &[u8], n: u16, e: u16, m: u16, tables: u32) -> u32
+    ensures { λ r. ⌜ r ≡ runsOut (length (now (s .entry))) (linksAt n) orElse tables orElse fillFault (now (s .entry)) (jobEnd n e m) ⌝ }
 {
-    let kinds = runs_out(s.len(), links_at(j.n));
-    let fill = fill_fault(s, job_end(j.n, j.e, j.m));
-    or_else(kinds, or_else(job_tables_fault(s.len(), j), fill))
+    let kinds = runs_out(s.len(), links_at(n));
+    let fill = fill_fault(s, job_end(n, e, m));
+    or_else(kinds, or_else(tables, fill))
 }
 
 // The job of n operations, e links and m types that a sheet spells.
@@ -286,7 +289,18 @@ pub fn read_job(sheet: &[u8]) -> JobRead
         return job_refused(head);
     }
     let job = job_in(sheet);
-    let body = job_body_fault(sheet, job);
+    let tables = job_tables_fault(
+        sheet.len(),
+        job.n,
+        job.e,
+        job.m,
+        &job.from,
+        &job.to,
+        &job.copies,
+        &job.times,
+        &job.intervals,
+    );
+    let body = job_body_fault(sheet, job.n, job.e, job.m, tables);
     if body != 0 {
         return job_refused(body);
     }
@@ -335,9 +349,20 @@ fn job_record_fault(j: Job) -> u32
 {
     let bytes = bits::bytes_for(job_end(j.n, j.e, j.m));
     let fits = fault_unless(job_fits(j), basics::RECORD_BROKEN);
+    let tables = job_tables_fault(
+        bytes,
+        j.n,
+        j.e,
+        j.m,
+        &j.from,
+        &j.to,
+        &j.copies,
+        &j.times,
+        &j.intervals,
+    );
     or_else(
         job_counts_fault(j.n, j.e, j.m, j.clock),
-        or_else(job_tables_fault(bytes, j), fits),
+        or_else(tables, fits),
     )
 }
 

@@ -16,4 +16,4 @@ use Rattle.tolmupung.specs.Starred.{Hold, starred}
 
 pub starred-hold : Hold starred
 unfolding readJob jobAnswer jobFault jobHeadFault jobBodyFault jobTablesFault linkGroup typeGroup jobCountsFault linkFault ascends typeFault pairSound jobOf readPlan planAnswer planFault planHeadFault planBodyFault planCountsFault planOf runsOut formFault fillFault faultUnless _orElse_ first allTo sumTo only filled field bit behind typeAt typesIn inSteps timingIn orderAt orderOk costAt selectionCost finish rowFault rowFaultAt rowsFault joins precedes linkOk precedenceOk shareOk besideOk resourceOk sameStep carried raised raisedIf brings broughtBy runOk chainsOk countsFault placingFault judgeFault planCost passOr judged ifRead judge
-starred-hold = (refl, (refl, (refl, (refl, (refl, (refl, (refl, tt)))))))
+starred-hold = (refl, refl, (refl, refl, (refl, refl, (refl, refl, (refl, refl, (refl, refl, (refl, refl, tt)))))))

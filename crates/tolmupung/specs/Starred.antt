@@ -1,5 +1,5 @@
--- The starred cases of document 01 ("Sheets tried by hand"), one table: what is asked of an entry for C, in bytes, and what
--- it answers. `Hold` is the one statement about them.
+-- The starred cases of document 01 ("Sheets tried by hand"), one table: what is asked of an entry for C, in bytes, what it
+-- answers and what it writes. `Hold` is the one statement about them.
 use Prim.Native.Nat.{ℕ}
 use mathlib.Core.Path.{_≡_}
 use mathlib.Core.List.{List, [], _∷_, _++_}
@@ -9,7 +9,7 @@ use Rattle.basics.specs.Numbers.{paperPlan, outcomePassed, countsDiffer, orderB
 use Rattle.basics.specs.declared.Answer.{Answer}
 use Rattle.rules.specs.Judge.{judge, judgedSays}
 
--- ---- what is asked, and what the entry's definition answers
+-- ---- what is asked, what the entry's definition answers, and the bytes that it writes
 
 pub data Request : Type 0 where
   judging : List ℕ → List ℕ → Request
@@ -17,15 +17,19 @@ pub data Request : Type 0 where
 abbrev pub answerTo : Request → Answer
 answerTo (judging job plan) = judgedSays (judge job plan)
 
+abbrev pub writtenFor : Request → List ℕ
+writtenFor (judging job plan) = []
+
 pub record Case : Type 0 where
   pub number : ℕ
   pub request : Request
   pub answer : Answer
+  pub output : List ℕ
 
--- every case is answered as the table says
+-- every case comes out as the table says
 abbrev pub Hold : List Case → Type 0
 Hold [] = Unit {0}
-Hold (case ∷ cases) = (answerTo (case .request) ≡ case .answer) × Hold cases
+Hold (case ∷ cases) = (answerTo (case .request) ≡ case .answer) × (writtenFor (case .request) ≡ case .output) × Hold cases
 
 abbrev pub passedAt : ℕ → Answer
 passedAt cost = record { outcome = outcomePassed; number = 0; paper = 0; cost = cost; visits = 0; length = 0 }
@@ -35,7 +39,8 @@ refusedBy number = refusedSays number paperPlan
 
 -- ---- job sheets
 
--- job P but for its first six bytes (N 3, E 2, M 2, deadline, clock 100, wire) and the multiplier's time and interval
+-- job P but for its first six bytes (N 3, E 2, M 2, deadline, clock 100, wire, operation 0's kind) and the multiplier's time
+-- and interval
 abbrev pub likeP : List ℕ → List ℕ → List ℕ
 likeP head multiply =
     head ++ (0x20 ∷ 0x02 ∷ 0x08 ∷ 0x80 ∷ 0x02 ∷ 0x90 ∷ 0x50 ∷ 0x14 ∷ [])
@@ -86,11 +91,11 @@ multiplyFirst = 0x21 ∷ 0x06 ∷ 0x20 ∷ 0x08 ∷ 0x00 ∷ []
 
 abbrev pub starred : List Case
 starred =
-    record { number = 1; request = judging jobP plan1; answer = passedAt 40 }
-    ∷ record { number = 4; request = judging jobP plan4; answer = refusedBy orderBroken }
-    ∷ record { number = 5; request = judging jobP plan5; answer = refusedBy countsDiffer }
-    ∷ record { number = 6; request = judging shortP plan6; answer = passedAt 40 }
-    ∷ record { number = 7; request = judging wiredP plan6; answer = refusedBy chainBroken }
-    ∷ record { number = 8; request = judging oneUnit addFirst; answer = refusedBy resourceBroken }
-    ∷ record { number = 8; request = judging oneUnit multiplyFirst; answer = passedAt 10 }
+    record { number = 1; request = judging jobP plan1; answer = passedAt 40; output = [] }
+    ∷ record { number = 4; request = judging jobP plan4; answer = refusedBy orderBroken; output = [] }
+    ∷ record { number = 5; request = judging jobP plan5; answer = refusedBy countsDiffer; output = [] }
+    ∷ record { number = 6; request = judging shortP plan6; answer = passedAt 40; output = [] }
+    ∷ record { number = 7; request = judging wiredP plan6; answer = refusedBy chainBroken; output = [] }
+    ∷ record { number = 8; request = judging oneUnit addFirst; answer = refusedBy resourceBroken; output = [] }
+    ∷ record { number = 8; request = judging oneUnit multiplyFirst; answer = passedAt 10; output = [] }
     ∷ []

@@ -1,16 +1,14 @@
 -- The loop has tested the runs that end with the links passed, and holds what they bring.
-use Prim.Native.Nat.{_*_, _-_, _≤_, ℕ}
+use Prim.Native.Nat.{_-_, _≤_}
 use mathlib.Core.Path.{_∙_, _≡_, ap, refl, sym}
-use native.Mathlib.Decide.{decLt}
 use native.Mathlib.Omega.{arith}
-use lib.ListN.{getD-replicate, length, length-replicate, replicate}
+use lib.ListN.{length, replicate}
 use Rattle.basics.specs.Counting.{allTo}
-use Rattle.basics.specs.Tables.{cell}
 use Rattle.basics.proofs.CountLaws.{allTo-more}
+use Rattle.basics.proofs.TableLaws.{cell-replicate}
 use Rattle.sheets.specs.Limits.{opCells}
-use Rattle.rules.specs.Rules.{Bounded, linkMost, broughtBy, chainsOk, runOkAt}
+use Rattle.rules.specs.Rules.{Bounded, broughtBy, chainsOk, runOkAt}
 use Rattle.rules.proofs.ChainLaws.{brings-length, brought-more}
-use lib.ListN.{List·getD-eq-default}
 use Rattle.rules.proofs.chains.chains_ok.Statement.{statement}
 use Rattle.rules.proofs.chains.chains_ok.Tie as tie
 
@@ -21,12 +19,8 @@ abbrev μ-loop : tie.MeasureT-loop
 μ-loop from to e wire clock starts times links brought₀ ok₀ l₀ brought ok l = links - l
 
 -- at first nothing has been brought
-zeros : (o : ℕ) → cell (replicate opCells 0) o ≤ linkMost * 0
-zeros o =
-    elim (decLt o opCells) [
-      | yes h ↦ omega (arith, getD-replicate {A = ℕ} opCells o 0 0 h)
-      | no h ↦ omega (arith, List·getD-eq-default {A = ℕ} (replicate opCells 0) 0 {n = o} (omega (arith, length-replicate {A = ℕ} opCells 0)))
-    ]
+zeros : Bounded (replicate opCells 0) 0
+zeros o = omega (arith, cell-replicate opCells o)
 
 loop-holds : tie.Need-loop-holds Inv-loop μ-loop
 unfolding broughtBy allTo

@@ -1,6 +1,5 @@
 -- The calls join as the definition does.
 use borrow.Author.Needs.{needs}
-use Rattle.sheets.specs.JobSheet.{jobBodyFault}
 use Rattle.sheets.proofs.jobs.job_body_fault.Statement.{statement}
 use Rattle.sheets.proofs.jobs.job_body_fault.Tie as tie
 
@@ -16,9 +15,6 @@ job-end-requires c κs = search needs
 fill-fault-requires : tie.Need-fill-fault-requires
 fill-fault-requires c κs = search needs
 
-job-tables-fault-requires : tie.Need-job-tables-fault-requires
-job-tables-fault-requires c κs = search needs
-
 or-else-requires : tie.Need-or-else-requires
 or-else-requires c κs = search needs
 
@@ -26,14 +22,12 @@ or-else-requires-2 : tie.Need-or-else-requires-2
 or-else-requires-2 c κs = search needs
 
 returns : tie.Need-returns
-unfolding jobBodyFault
 returns c =
     let b2 = c .before .before in
     let b3 = b2 .before in
     let b4 = b3 .before in
     let b5 = b4 .before in
-    let b6 = b5 .before in
-    simp (c .or-else2 .ensures, c .before .or-else .ensures, b2 .job-tables-fault .ensures, b3 .fill-fault .ensures, b4 .job-end .ensures, b5 .runs-out .ensures, b6 .links-at .ensures)
+    simp (c .or-else2 .ensures, c .before .or-else .ensures, b2 .fill-fault .ensures, b3 .job-end .ensures, b4 .runs-out .ensures, b5 .links-at .ensures)
 
 pub job-body-fault-spec : {M : Type 1} → statement M
 job-body-fault-spec =
@@ -43,7 +37,6 @@ job-body-fault-spec =
     runs-out-requires
     job-end-requires
     fill-fault-requires
-    job-tables-fault-requires
     or-else-requires
     or-else-requires-2
     returns)

@@ -2,9 +2,9 @@
 use native.Mathlib.Omega.{arith}
 use borrow.Author.Needs.{needs}
 use Rattle.bits.specs.Sheet.{bytesFor}
-use Rattle.sheets.proofs.RecordLaws.{tables-rules}
 use Rattle.sheets.specs.JobRecord.{jobRecordFault}
-use Rattle.sheets.specs.JobSheet.{jobEnd}
+use Rattle.sheets.specs.JobSheet.{jobEnd, jobTablesFault}
+use Rattle.sheets.proofs.RecordLaws.{tables-rules}
 use Rattle.sheets.proofs.jobs.job_record_fault.Statement.{statement}
 use Rattle.sheets.proofs.jobs.job_record_fault.Tie as tie
 
@@ -20,11 +20,11 @@ job-fits-requires c κs = search needs
 fault-unless-requires : tie.Need-fault-unless-requires
 fault-unless-requires c κs = search needs
 
-job-counts-fault-requires : tie.Need-job-counts-fault-requires
-job-counts-fault-requires c κs = search needs
-
 job-tables-fault-requires : tie.Need-job-tables-fault-requires
 job-tables-fault-requires c κs = search needs
+
+job-counts-fault-requires : tie.Need-job-counts-fault-requires
+job-counts-fault-requires c κs = search needs
 
 or-else-requires : tie.Need-or-else-requires
 or-else-requires c κs = search needs
@@ -33,18 +33,15 @@ or-else-requires-2 : tie.Need-or-else-requires-2
 or-else-requires-2 c κs = search needs
 
 returns : tie.Need-returns
-unfolding jobRecordFault
+unfolding jobRecordFault jobTablesFault
 returns c =
-    let b2 = c .before .before in
-    let b3 = b2 .before in
-    let b4 = b3 .before in
-    let b5 = b4 .before in
-    let b6 = b5 .before in
-    let b7 = b6 .before in
-    let b8 = b7 .before in
-    let j = b8 .args .j in
+    let b15 = c .before .before .before .before .before .before .before .before .before .before .before .before .before .before .before in
+    let b16 = b15 .before in
+    let b17 = b16 .before in
+    let b18 = b17 .before in
+    let j = b18 .before .args .t1 in
     let r = tables-rules j (bytesFor (jobEnd (j .n) (j .e) (j .m))) (omega arith) in
-    simp (c .or-else2 .ensures, c .before .or-else .ensures, b2 .job-tables-fault .ensures, b3 .job-counts-fault .ensures, b4 .fault-unless .ensures, b5 .job-fits .ensures, b6 .bytes-for .ensures, b7 .job-end .ensures, r)
+    simp (c .or-else2 .ensures, c .before .or-else .ensures, c .before .before .before .job-tables-fault .ensures, c .before .before .job-counts-fault .ensures, b15 .fault-unless .ensures, b16 .job-fits .ensures, b17 .bytes-for .ensures, b18 .job-end .ensures, r)
 
 pub job-record-fault-spec : {M : Type 1} → statement M
 job-record-fault-spec =
@@ -54,8 +51,8 @@ job-record-fault-spec =
     bytes-for-requires
     job-fits-requires
     fault-unless-requires
-    job-counts-fault-requires
     job-tables-fault-requires
+    job-counts-fault-requires
     or-else-requires
     or-else-requires-2
     returns)

@@ -1,9 +1,9 @@
 -- The faults of head and body join to the sheet's first.
-use mathlib.Core.Path.{sym, _∙_}
+use mathlib.Core.Path.{_∙_, ap, sym}
 use borrow.Author.Needs.{needs}
-use Rattle.basics.proofs.FaultLaws.{stopped, went, orElse-go}
-use Rattle.sheets.proofs.JobLaws.{job-refused, job-read}
-use Rattle.sheets.specs.JobSheet.{jobFault}
+use Rattle.basics.proofs.FaultLaws.{orElse-go, stopped, went}
+use Rattle.sheets.specs.JobSheet.{jobBodyFault, jobFault}
+use Rattle.sheets.proofs.JobLaws.{job-body, job-read, job-refused}
 use Rattle.sheets.proofs.jobs.read_job.Statement.{statement}
 use Rattle.sheets.proofs.jobs.read_job.Tie as tie
 
@@ -22,6 +22,9 @@ returns c =
 job-in-requires : tie.Need-job-in-requires
 job-in-requires c κs = sym (c .before .job-head-fault .ensures) ∙ c .if1 .left
 
+job-tables-fault-requires : tie.Need-job-tables-fault-requires
+job-tables-fault-requires c κs = search needs
+
 job-body-fault-requires : tie.Need-job-body-fault-requires
 job-body-fault-requires c κs = search needs
 
@@ -31,23 +34,20 @@ job-refused-requires-2 c κs = search needs
 returns-2 : tie.Need-returns-2
 unfolding jobFault
 returns-2 c =
-    let b2 = c .before .before in
-    let b3 = b2 .before in
-    let b4 = b3 .before in
-    let b5 = b4 .before in
-    let b6 = b5 .before in
-    let z = sym (b5 .job-head-fault .ensures) ∙ b4 .if1 .left in
-    (job-refused _ _ _ (c .job-refused2 .ensures) (went _ _ _ z (rw (b2 .job-body-fault .ensures, b3 .job-in .ensures))) (c .before .if2 .taken), λ i. b6 .shared-slice-known .given i .fits)
+    let b15 = c .before .before .before .before .before .before .before .before .before .before .before .before .before .before .before in
+    let b18 = b15 .before .before .before in
+    let z = sym (b15 .before .before .job-head-fault .ensures) ∙ b15 .before .if1 .left in
+    let body = job-body _ _ _ _ (c .before .before .before .job-tables-fault .ensures) (c .before .before .job-body-fault .ensures) in
+    (job-refused _ _ _ (c .job-refused2 .ensures) (went _ _ _ z (body ∙ ap (jobBodyFault _) (b15 .job-in .ensures))) (c .before .if2 .taken), λ i. b18 .shared-slice-known .given i .fits)
 
 returns-3 : tie.Need-returns-3
 unfolding jobFault
 returns-3 c =
-    let b2 = c .before .before in
-    let b3 = b2 .before in
-    let b4 = b3 .before in
-    let b5 = b4 .before in
-    let z = sym (b4 .job-head-fault .ensures) ∙ b3 .if1 .left in
-    (job-read _ _ (orElse-go _ _ z ∙ rw (← b2 .job-in .ensures, ← c .before .job-body-fault .ensures) (c .if2 .left)) (b2 .job-in .ensures), λ i. b5 .shared-slice-known .given i .fits)
+    let b14 = c .before .before .before .before .before .before .before .before .before .before .before .before .before .before in
+    let b17 = b14 .before .before .before in
+    let z = sym (b14 .before .before .job-head-fault .ensures) ∙ b14 .before .if1 .left in
+    let body = job-body _ _ _ _ (c .before .before .job-tables-fault .ensures) (c .before .job-body-fault .ensures) in
+    (job-read _ _ (orElse-go _ _ z ∙ ap (jobBodyFault _) (sym (b14 .job-in .ensures)) ∙ sym body ∙ c .if2 .left) (b14 .job-in .ensures), λ i. b17 .shared-slice-known .given i .fits)
 
 pub read-job-spec : {M : Type 1} → statement M
 read-job-spec =
@@ -57,6 +57,7 @@ read-job-spec =
     job-refused-requires
     returns
     job-in-requires
+    job-tables-fault-requires
     job-body-fault-requires
     job-refused-requires-2
     returns-2
