@@ -9,6 +9,9 @@ use timing::Speeds;
 
 const CALLED_WRONGLY: u8 = 2;
 
+/// What is asked of the library's speed beside the second program's.
+const LEAST_RATIO: f64 = 1.0;
+
 /// The word that selects a benchmark, and the benchmark: a name and the speeds for each of its lines.
 type Benchmark = (&'static str, fn() -> Vec<(String, Speeds)>);
 
@@ -24,14 +27,19 @@ fn main() -> ExitCode {
         return usage();
     }
     println!("{}", timing::heading());
+    let mut status = ExitCode::SUCCESS;
     for (word, benchmark) in BENCHMARKS {
         if words.is_empty() || words[0] == word {
             for (name, speeds) in benchmark() {
                 println!("{}", speeds.line(&name));
+                if speeds.ratio() < LEAST_RATIO {
+                    println!("too slow: the ratio should be at least {LEAST_RATIO}");
+                    status = ExitCode::FAILURE;
+                }
             }
         }
     }
-    ExitCode::SUCCESS
+    status
 }
 
 fn usage() -> ExitCode {

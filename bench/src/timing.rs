@@ -29,9 +29,14 @@ impl Speeds {
         Speeds { library, second }
     }
 
+    /// How many times as fast as the second program the library is.
+    pub fn ratio(&self) -> f64 {
+        self.library / self.second
+    }
+
     pub fn line(&self, name: &str) -> String {
         let Speeds { library, second } = self;
-        let ratio = library / second;
+        let ratio = self.ratio();
         format!("{name:<40}{library:>12.0}{second:>12.0}{ratio:>16.2}")
     }
 }

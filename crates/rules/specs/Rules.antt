@@ -1,6 +1,6 @@
--- The rules on rows, precedence, resource and chain, each among the operations that are placed: `starts` and `insts` hold
--- each operation's start and instance, start 0 is not placed, and `times`, `delays` and `spacings` are what each takes on its
--- instance. Judge, walk and notes share them.
+-- The rules on rows, precedence, resource and chain. `starts` and `insts` hold each operation's start and instance, and
+-- `times`, `delays` and `spacings` what it takes there; start 0 is not placed. The rule on rows is asked of each operation
+-- that is to be placed, the others speak of those that are. Judge, walk and notes share them.
 use Prim.Native.Nat.{ℕ, zero, suc, _+_, _-_, _*_, _^_, _≤_, max}
 use mathlib.Core.Bool.{Bool, true, false, not, _||_, _&&_}
 use mathlib.Core.List.{List}
@@ -43,7 +43,8 @@ placed starts o = ltb 0 (cell starts o)
 unfoldable pub joins : List ℕ → List ℕ → List ℕ → ℕ → Bool
 joins from to starts l = placed starts (cell from l) && placed starts (cell to l)
 
--- ---- precedence: of a link (a, b), b starts behind a's finish, or both start together and both delays are 1
+-- ---- precedence: of a link (a, b), b starts behind a's finish (at a's start + delay or later), or both start together and
+-- both delays are 1
 
 unfoldable pub precedes : ℕ → ℕ → ℕ → ℕ → Bool
 precedes start delay start' delay' = ltb (finish start delay) start' || (eqb start start' && eqb delay 1 && eqb delay' 1)
