@@ -50,8 +50,12 @@ intervalOf j o i = spanOf (typesOf j) (j .kinds) (j .intervals) o i
 unfoldable pub inSteps : ℕ → ℕ → ℕ
 inSteps clock span = (span + (clock - 1)) / clock
 
+-- of operation o on instance i; of cell c in a table of spans
 abbrev pub stepsOf : ℕ → (ℕ → ℕ → ℕ) → ℕ → ℕ → ℕ
 stepsOf clock span o i = inSteps clock (span o i)
+
+abbrev pub stepsAt : ℕ → List ℕ → ℕ → ℕ
+stepsAt clock spans c = inSteps clock (cell spans c)
 
 -- operation o's delay on instance i, and its spacing
 abbrev pub delayOf : Job → ℕ → ℕ → ℕ
@@ -85,10 +89,6 @@ timingOf j insts = timingIn (typesOf j) (j .clock) (j .kinds) (j .times) (j .int
 
 abbrev pub unitCells : ℕ
 unitCells = opCells * instCells
-
--- cell c of a table in steps
-abbrev pub stepsAt : ℕ → List ℕ → ℕ → ℕ
-stepsAt clock spans c = inSteps clock (cell spans c)
 
 -- cell c of a table of `of o i`
 abbrev pub unitAt : (ℕ → ℕ → ℕ) → ℕ → ℕ
