@@ -1,4 +1,4 @@
-/* Tolmupung: job and plan sheets, read and written exactly, and plans judged.
+/* Tolmupung: job and plan sheets, read and written exactly, plans judged, and the cheapest plan searched for.
  *
  * Every entry takes any bytes and any numbers, and ends. A refusal gives its number and the paper at fault,
  * and changes no output byte. Nothing here allocates, and nothing is kept between calls.
@@ -58,7 +58,9 @@ enum {
     TOLMUPUNG_PRECEDENCE_BROKEN = 16,
     TOLMUPUNG_RESOURCE_BROKEN = 17,
     TOLMUPUNG_CHAIN_BROKEN = 18,
-    TOLMUPUNG_OUTPUT_SHORT = 22
+    TOLMUPUNG_OUTPUT_SHORT = 22,
+    TOLMUPUNG_BUDGET_SPENT = 30,       /* the search needs more visits than its budget */
+    TOLMUPUNG_NO_PLAN = 31             /* no plan meets the rules */
 };
 
 /* The paper at fault. */
@@ -125,6 +127,12 @@ tolmupung_answer tolmupung_write_plan(tolmupung_plan plan, uint8_t *out, size_t 
  * 10 to 18. A plan of length 0 is refused by 1, paper 1. */
 tolmupung_answer tolmupung_judge(const uint8_t *job, size_t job_len, const uint8_t *plan, size_t plan_len);
 
+/* The search: found with the cost, the visits and the length of the plan's sheet, whose bytes begin the output; the bytes behind
+ * them stay as they were. Else no byte of it changes: spent (number 30, paper 4, visits = budget) where the walk needs more
+ * visits than the budget; none (number 31, paper 0, and the visits) where no plan meets the rules; or refused, by the job reader's
+ * numbers or at last by 22. */
+tolmupung_answer tolmupung_search(const uint8_t *job, size_t job_len, uint32_t budget, uint8_t *out, size_t out_len);
+
 #ifdef __cplusplus
 }
 #endif
@@ -169,10 +177,17 @@ static inline tolmupung_answer tolmupung_safe_judge(const uint8_t *job, size_t j
     return tolmupung_judge(tolmupung_from(job), job ? job_len : 0, tolmupung_from(plan), plan ? plan_len : 0);
 }
 
+static inline tolmupung_answer tolmupung_safe_search(const uint8_t *job, size_t job_len, uint32_t budget, uint8_t *out,
+                                                     size_t out_len)
+{
+    return tolmupung_search(tolmupung_from(job), job ? job_len : 0, budget, tolmupung_into(out), out ? out_len : 0);
+}
+
 #define tolmupung_read_job tolmupung_safe_read_job
 #define tolmupung_read_plan tolmupung_safe_read_plan
 #define tolmupung_write_job tolmupung_safe_write_job
 #define tolmupung_write_plan tolmupung_safe_write_plan
 #define tolmupung_judge tolmupung_safe_judge
+#define tolmupung_search tolmupung_safe_search
 
 #endif

@@ -16,10 +16,16 @@ static void check(int holds, const char *what)
     }
 }
 
+static int is(tolmupung_answer a, uint32_t outcome, uint32_t number, uint32_t paper, uint32_t cost, uint32_t visits,
+              uint32_t length)
+{
+    return a.outcome == outcome && a.number == number && a.paper == paper && a.cost == cost && a.visits == visits &&
+           a.length == length;
+}
+
 static int answers(tolmupung_answer a, uint32_t outcome, uint32_t number, uint32_t paper, uint32_t length)
 {
-    return a.outcome == outcome && a.number == number && a.paper == paper && a.cost == 0 && a.visits == 0 &&
-           a.length == length;
+    return is(a, outcome, number, paper, 0, 0, length);
 }
 
 static void layout(void)
@@ -108,9 +114,7 @@ static void judging(void)
     plan.selection[2] = plan.selection[6] = 1;
     b = tolmupung_write_plan(plan, planned, sizeof planned);
     r = tolmupung_judge(sheet, a.length, planned, b.length);
-    check(r.outcome == TOLMUPUNG_PASSED && r.number == 0 && r.paper == 0 && r.cost == 65535 + 65534 && r.visits == 0 &&
-              r.length == 0,
-          "a plan passes at its cost");
+    check(is(r, TOLMUPUNG_PASSED, 0, 0, 65535 + 65534, 0, 0), "a plan passes at its cost");
     check(answers(tolmupung_judge(planned, b.length, sheet, a.length), TOLMUPUNG_REFUSED, TOLMUPUNG_FORM_DIFFERS,
                   TOLMUPUNG_PAPER_JOB, 0),
           "a plan's sheet is no job's");
@@ -124,6 +128,44 @@ static void judging(void)
     check(answers(tolmupung_judge(NULL, 9, planned, b.length), TOLMUPUNG_REFUSED, TOLMUPUNG_BITS_RUN_OUT,
                   TOLMUPUNG_PAPER_JOB, 0),
           "NULL judged as a job");
+}
+
+/* One operation, on the last of seven instances, which costs least: nine steps and seven instances are 63 visits, and one
+ * is the empty start. */
+static void searching(void)
+{
+    uint8_t sheet[TOLMUPUNG_JOB_BYTES], planned[TOLMUPUNG_PLAN_BYTES], out[TOLMUPUNG_PLAN_BYTES];
+    tolmupung_job job = some_job();
+    tolmupung_plan plan;
+    tolmupung_answer a, b;
+    job.n = 1, memset(job.kinds + 1, 0, sizeof job.kinds - sizeof job.kinds[0]);
+    job.e = 0, memset(job.from, 0, sizeof job.from), memset(job.to, 0, sizeof job.to);
+    job.clock = 1023, a = tolmupung_write_job(job, sheet, sizeof sheet);
+    memset(&plan, 0, sizeof plan);
+    plan.n = 1, plan.k = 7, plan.starts[0] = 1, plan.insts[0] = 6, plan.selection[6] = 1;
+    memset(planned, 0xa5, sizeof planned), memset(out, 0xa5, sizeof out);
+    check(is(tolmupung_search(sheet, a.length, 63, out, sizeof out), TOLMUPUNG_SPENT, TOLMUPUNG_BUDGET_SPENT,
+             TOLMUPUNG_PAPER_REQUEST, 0, 63, 0),
+          "a budget is spent");
+    check(answers(tolmupung_search(sheet, a.length, 64, out, 3), TOLMUPUNG_REFUSED, TOLMUPUNG_OUTPUT_SHORT,
+                  TOLMUPUNG_PAPER_REQUEST, 0),
+          "an output of three bytes is too short for the plan found");
+    check(answers(tolmupung_search(sheet, a.length, 64, NULL, 9), TOLMUPUNG_REFUSED, TOLMUPUNG_OUTPUT_SHORT,
+                  TOLMUPUNG_PAPER_REQUEST, 0),
+          "NULL is too short for the plan found");
+    check(answers(tolmupung_search(NULL, 9, 64, out, sizeof out), TOLMUPUNG_REFUSED, TOLMUPUNG_BITS_RUN_OUT,
+                  TOLMUPUNG_PAPER_JOB, 0),
+          "NULL searched as a job");
+    check(memcmp(out, planned, sizeof out) == 0, "without a plan found the output stays");
+    b = tolmupung_write_plan(plan, planned, sizeof planned);
+    check(is(tolmupung_search(sheet, a.length, 64, out, sizeof out), TOLMUPUNG_FOUND, 0, 0, 65534, 64, b.length) &&
+              b.length == 4,
+          "the cheapest plan is found");
+    check(memcmp(out, planned, sizeof out) == 0, "the plan found begins the output, and the rest stays");
+    job.t = 0, a = tolmupung_write_job(job, sheet, sizeof sheet);
+    check(is(tolmupung_search(sheet, a.length, UINT32_MAX, out, sizeof out), TOLMUPUNG_NONE, TOLMUPUNG_NO_PLAN,
+             TOLMUPUNG_PAPER_JOB, 0, 1, 0),
+          "without steps no plan meets the rules");
 }
 
 static void nothing(void)
@@ -151,6 +193,7 @@ int main(void)
     jobs();
     plans();
     judging();
+    searching();
     nothing();
     return failed;
 }

@@ -1,6 +1,8 @@
-//! Benchmarks: the library beside the second program, on the same bytes in one run.
+//! Benchmarks: the library beside the second program and beside a walk in C, on the same jobs in one run.
 
 mod judge;
+mod report;
+mod search;
 mod timing;
 
 use std::env;
@@ -9,33 +11,66 @@ use timing::Speeds;
 
 const CALLED_WRONGLY: u8 = 2;
 
-/// What is asked of the library's speed beside the second program's.
-const LEAST_RATIO: f64 = 1.0;
+struct Benchmark {
+    /// The word that selects it.
+    word: &'static str,
+    /// What is counted, and for whom beside the library.
+    what: &'static str,
+    peer: &'static str,
+    /// What is asked of the library's speed beside the peer's.
+    least_ratio: f64,
+    /// A name and the speeds for each line.
+    lines: fn() -> Vec<(String, Speeds)>,
+}
 
-/// The word that selects a benchmark, and the benchmark: a name and the speeds for each of its lines.
-type Benchmark = (&'static str, fn() -> Vec<(String, Speeds)>);
-
-const BENCHMARKS: [Benchmark; 1] = [("judge", judge::run)];
+const BENCHMARKS: [Benchmark; 2] = [
+    Benchmark {
+        word: "judge",
+        what: "answers",
+        peer: "second",
+        least_ratio: 1.0,
+        lines: judge::run,
+    },
+    Benchmark {
+        word: "search",
+        what: "visits",
+        peer: "C",
+        least_ratio: 0.5,
+        lines: search::run,
+    },
+];
 
 fn main() -> ExitCode {
     let words: Vec<String> = env::args_os()
         .skip(1)
         .map(|word| word.to_string_lossy().into_owned())
         .collect();
-    let known = |word: &String| BENCHMARKS.iter().any(|(name, _)| name == word);
-    if words.len() > 1 || !words.iter().all(known) {
-        return usage();
+    match words.as_slice() {
+        [] => measure(&BENCHMARKS),
+        [word] if word == "report" => report::run(),
+        [word] => {
+            let named = |benchmark: &&Benchmark| benchmark.word == word;
+            BENCHMARKS
+                .iter()
+                .find(named)
+                .map_or_else(usage, |found| measure(std::slice::from_ref(found)))
+        }
+        _ => usage(),
     }
-    println!("{}", timing::heading());
+}
+
+/// Fails where a line is too slow.
+fn measure(benchmarks: &[Benchmark]) -> ExitCode {
     let mut status = ExitCode::SUCCESS;
-    for (word, benchmark) in BENCHMARKS {
-        if words.is_empty() || words[0] == word {
-            for (name, speeds) in benchmark() {
-                println!("{}", speeds.line(&name));
-                if speeds.ratio() < LEAST_RATIO {
-                    println!("too slow: the ratio should be at least {LEAST_RATIO}");
-                    status = ExitCode::FAILURE;
-                }
+    for benchmark in benchmarks {
+        let least = benchmark.least_ratio;
+        let lines = (benchmark.lines)();
+        println!("{}", timing::heading(benchmark.what, benchmark.peer));
+        for (name, speeds) in lines {
+            println!("{}", speeds.line(&name));
+            if speeds.ratio() < least {
+                println!("too slow: the ratio should be at least {least}");
+                status = ExitCode::FAILURE;
             }
         }
     }
@@ -44,8 +79,9 @@ fn main() -> ExitCode {
 
 fn usage() -> ExitCode {
     eprintln!("usage: bench [WORD]   without a word, every benchmark; the words are:");
-    for (word, _) in BENCHMARKS {
-        eprintln!("  {word}");
+    for benchmark in BENCHMARKS {
+        eprintln!("  {}", benchmark.word);
     }
+    eprintln!("  report   the report's differential equation, our costs and times beside its own");
     ExitCode::from(CALLED_WRONGLY)
 }

@@ -1,43 +1,45 @@
-//! Rounds of the library and of the second program in turn, timed.
+//! Rounds of the library and of its peer in turn, timed.
 
 use std::time::{Duration, Instant};
 
-const ROUNDS: usize = 31;
-
-/// How many questions each answers in a second.
+/// How much each does in a second.
 pub struct Speeds {
     library: f64,
-    second: f64,
+    peer: f64,
 }
 
-pub fn heading() -> String {
-    format!(
-        "{:<40}{:>12}{:>12}{:>16}",
-        "answers in a second", "library", "second", "library/second"
-    )
+/// The heading over lines of speeds; `what` is done in a second.
+pub fn heading(what: &str, peer: &str) -> String {
+    let [what, ratio] = [format!("{what} in a second"), format!("library/{peer}")];
+    format!("{what:<40}{:>12}{peer:>12}{ratio:>16}", "library")
 }
 
 impl Speeds {
-    /// Each of the two answers `questions` questions in a call, a round; the median round counts.
-    pub fn of(questions: usize, mut library: impl FnMut(), mut second: impl FnMut()) -> Speeds {
-        let mut rounds = [Vec::new(), Vec::new()];
-        for _ in 0..ROUNDS {
-            rounds[0].push(timed(&mut library));
-            rounds[1].push(timed(&mut second));
+    /// In each of the rounds the library and then the peer does as much as `amount`; the median round counts.
+    pub fn of(
+        rounds: usize,
+        amount: usize,
+        mut library: impl FnMut(),
+        mut peer: impl FnMut(),
+    ) -> Speeds {
+        let mut times = [Vec::new(), Vec::new()];
+        for _ in 0..rounds {
+            times[0].push(timed(&mut library));
+            times[1].push(timed(&mut peer));
         }
-        let [library, second] = rounds.map(|times| questions as f64 / median(times).as_secs_f64());
-        Speeds { library, second }
+        let [library, peer] = times.map(|times| amount as f64 / median(times).as_secs_f64());
+        Speeds { library, peer }
     }
 
-    /// How many times as fast as the second program the library is.
+    /// How many times as fast as its peer the library is.
     pub fn ratio(&self) -> f64 {
-        self.library / self.second
+        self.library / self.peer
     }
 
     pub fn line(&self, name: &str) -> String {
-        let Speeds { library, second } = self;
+        let Speeds { library, peer } = self;
         let ratio = self.ratio();
-        format!("{name:<40}{library:>12.0}{second:>12.0}{ratio:>16.2}")
+        format!("{name:<40}{library:>12.0}{peer:>12.0}{ratio:>16.2}")
     }
 }
 
@@ -66,10 +68,10 @@ mod tests {
     fn a_line_is_as_wide_as_the_heading() {
         let speeds = Speeds {
             library: 300.0,
-            second: 200.0,
+            peer: 200.0,
         };
         let line = speeds.line("judge");
-        assert_eq!(line.len(), heading().len());
+        assert_eq!(line.len(), heading("answers", "second").len());
         assert!(line.ends_with(" 300         200            1.50"));
     }
 }

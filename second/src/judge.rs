@@ -4,8 +4,8 @@ use crate::job::Job;
 use crate::plan::Plan;
 use crate::refusal::{Fault, Paper, Refusal};
 use crate::rules::{
-    broken_by_row, chain_holds, cost, counts_are_equal, precedence_holds, resource_holds,
-    selection_order_holds, Place,
+    broken_by_row, chain_holds, cost, counts_are_equal, places, precedence_holds, resource_holds,
+    selection_order_holds,
 };
 use crate::sheet::Form;
 
@@ -19,7 +19,7 @@ pub fn judge(job_sheet: &[u8], plan_sheet: &[u8]) -> Result<u32, Refusal> {
     })
 }
 
-fn judge_plan(job: &Job, plan: &Plan) -> Result<u32, Fault> {
+pub fn judge_plan(job: &Job, plan: &Plan) -> Result<u32, Fault> {
     if !counts_are_equal(job, plan) {
         return Err(Fault::CountsDiffer);
     }
@@ -31,7 +31,7 @@ fn judge_plan(job: &Job, plan: &Plan) -> Result<u32, Fault> {
             return Err(*fault);
         }
     }
-    let places = places(job, plan);
+    let places = places(job, &plan.rows);
     if !precedence_holds(job, &places) {
         return Err(Fault::Precedence);
     }
@@ -41,14 +41,7 @@ fn judge_plan(job: &Job, plan: &Plan) -> Result<u32, Fault> {
     if !chain_holds(job, &places) {
         return Err(Fault::Chain);
     }
-    Ok(cost(job, plan))
-}
-
-/// The place of each operation, None where its row gives it none.
-fn places(job: &Job, plan: &Plan) -> Vec<Option<Place>> {
-    let rows = plan.rows.iter().enumerate();
-    rows.map(|(operation, row)| Place::of(job, operation, *row))
-        .collect()
+    Ok(cost(job, &plan.selection))
 }
 
 /// Every rule that the plan breaks, and not the first alone. Where the counts differ no other rule can be asked;
@@ -64,7 +57,7 @@ pub fn broken_rules(job: &Job, plan: &Plan) -> Vec<Fault> {
     for operation in 0..plan.rows.len() {
         broken.extend(broken_by_row(job, plan, operation));
     }
-    let places = places(job, plan);
+    let places = places(job, &plan.rows);
     let among_places = [
         (precedence_holds(job, &places), Fault::Precedence),
         (resource_holds(&places), Fault::Resource),

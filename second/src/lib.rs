@@ -1,18 +1,22 @@
-//! The second program of Tolmupung: it reads, writes and judges the office's sheets by the written rules alone, and
-//! compares the library with itself.
+//! The second program of Tolmupung: it reads, writes and judges the office's sheets and searches for the cheapest plan by
+//! the written rules alone, and compares the library with itself.
 
 mod bits;
 pub mod compare;
+pub mod diffeq;
+mod every_plan;
 pub mod hex;
 mod job;
 pub mod judge;
 pub mod library;
-mod plan;
+pub mod plan;
 pub mod planned;
 pub mod random;
-mod record;
+pub mod record;
 mod refusal;
 mod rules;
 pub mod samples;
+pub mod search;
 pub mod sheet;
 pub mod show;
+pub mod small;

@@ -4,11 +4,15 @@ use crate::job::Job;
 use crate::plan::Plan;
 use crate::record::{JobRecord, PlanRecord, Record};
 use crate::refusal::{Paper, Refusal};
+use crate::search::Searched;
 use crate::sheet::Form;
 use std::mem::{align_of, offset_of, size_of};
 
 const REFUSED: u32 = 0;
 const PASSED: u32 = 1;
+const FOUND: u32 = 2;
+const NONE: u32 = 3;
+const SPENT: u32 = 4;
 const WRITTEN: u32 = 6;
 const READ: u32 = 7;
 
@@ -75,6 +79,30 @@ impl Answer {
         }
     }
 
+    /// What the search ought to give.
+    pub fn searched(searched: &Searched) -> Answer {
+        match searched {
+            Searched::Found { best, visits } => Answer {
+                outcome: FOUND,
+                cost: best.cost,
+                visits: *visits,
+                length: best.plan.sheet().len() as u32,
+                ..Answer::NOTHING
+            },
+            Searched::None { visits } => Answer {
+                outcome: NONE,
+                visits: *visits,
+                ..Answer::refused(Refusal::NO_PLAN)
+            },
+            Searched::Spent { budget } => Answer {
+                outcome: SPENT,
+                visits: *budget,
+                ..Answer::refused(Refusal::BUDGET_SPENT)
+            },
+            Searched::Refused(refusal) => Answer::refused(*refusal),
+        }
+    }
+
     pub fn refused(refusal: Refusal) -> Answer {
         Answer {
             outcome: REFUSED,
@@ -84,8 +112,9 @@ impl Answer {
         }
     }
 
-    pub fn is_refusal(&self) -> bool {
-        self.outcome == REFUSED
+    /// What was asked for was not given, and a number and a paper say why.
+    pub fn has_number(&self) -> bool {
+        self.number != 0
     }
 }
 
@@ -111,6 +140,13 @@ extern "C" {
     fn tolmupung_read_plan(sheet: *const u8, sheet_len: usize) -> Reading<PlanRecord>;
     fn tolmupung_write_plan(plan: PlanRecord, out: *mut u8, out_len: usize) -> Answer;
     fn tolmupung_judge(job: *const u8, job_len: usize, plan: *const u8, plan_len: usize) -> Answer;
+    fn tolmupung_search(
+        job: *const u8,
+        job_len: usize,
+        budget: u32,
+        out: *mut u8,
+        out_len: usize,
+    ) -> Answer;
 }
 
 #[derive(Clone, Copy, Debug, PartialEq, Eq, PartialOrd, Ord)]
@@ -120,18 +156,20 @@ pub enum Entry {
     ReadPlan,
     WritePlan,
     Judge,
+    Search,
 }
 
-/// A paper, and the numbers by which an entry can refuse it.
+/// A paper, and the numbers that an entry can give with it.
 type Refusals = (Paper, &'static [u32]);
 
 impl Entry {
-    pub const ALL: [Entry; 5] = [
+    pub const ALL: [Entry; 6] = [
         Entry::ReadJob,
         Entry::WriteJob,
         Entry::ReadPlan,
         Entry::WritePlan,
         Entry::Judge,
+        Entry::Search,
     ];
 
     pub fn name(self) -> &'static str {
@@ -141,10 +179,11 @@ impl Entry {
             Entry::ReadPlan => "plan reader",
             Entry::WritePlan => "plan writer",
             Entry::Judge => "judge",
+            Entry::Search => "search",
         }
     }
 
-    /// The refusals that the entry can give.
+    /// The refusals that the entry can give, and for the search its outcomes spent and none, by their numbers.
     pub fn refusals(self) -> &'static [Refusals] {
         match self {
             Entry::ReadJob => &[(Paper::Job, &[1, 2, 3, 4, 5, 6])],
@@ -157,6 +196,10 @@ impl Entry {
                     Paper::Plan,
                     &[1, 2, 3, 6, 10, 11, 12, 13, 14, 15, 16, 17, 18],
                 ),
+            ],
+            Entry::Search => &[
+                (Paper::Job, &[1, 2, 3, 4, 5, 6, 31]),
+                (Paper::Request, &[22, 30]),
             ],
         }
     }
@@ -200,4 +243,9 @@ impl Entries for Plan {
 /// The entry that judges a plan against its job.
 pub fn judge_by_library(job: &[u8], plan: &[u8]) -> Answer {
     unsafe { tolmupung_judge(job.as_ptr(), job.len(), plan.as_ptr(), plan.len()) }
+}
+
+/// The entry that searches for a job's cheapest plan.
+pub fn search_by_library(job: &[u8], budget: u32, out: &mut [u8]) -> Answer {
+    unsafe { tolmupung_search(job.as_ptr(), job.len(), budget, out.as_mut_ptr(), out.len()) }
 }

@@ -1,10 +1,12 @@
 //! The second program's command line.
 
 use second::random::Random;
+use second::search::{search, Searched};
 use second::sheet::Form;
-use second::{compare, hex, judge, samples, show};
+use second::{compare, diffeq, hex, judge, samples, show};
 use std::env;
 use std::io::{self, Write};
+use std::num::ParseIntError;
 use std::process::ExitCode;
 
 const DEFAULT_SEED: u64 = 1;
@@ -15,13 +17,15 @@ const USAGE: &str = "\
 usage:
   second compare [SEED] [COUNT]   the library beside this program; COUNT scales the random inputs
   second judge JOBHEX PLANHEX     this program's own verdict on a plan
+  second search JOBHEX [BUDGET]   this program's own search, without BUDGET as long as it takes
   second show job HEX             a job sheet, field by field
   second show plan HEX            a plan sheet, field by field
   second make job P               the sheet of job P, in hex
+  second make job diffeq STEPS    the sheet of the report's differential equation, 3 to 7 steps
   second make job SEED            the sheet of a random job
   second make plan 1              the sheet of the plan of case 1
   second make plan SEED           the sheet of a random plan (SEED other than 1)
-numbers are decimal; HEX may have spaces between its digits (judge: within quotes)
+numbers are decimal; HEX may have spaces between its digits (judge, search: within quotes)
 ";
 
 fn main() -> ExitCode {
@@ -33,9 +37,12 @@ fn main() -> ExitCode {
     match words.as_slice() {
         ["compare", numbers @ ..] => compare(numbers),
         ["judge", job, plan] => judge_sheets(job, plan),
+        ["search", job] => search_sheet(job, Ok(u32::MAX)),
+        ["search", job, budget] => search_sheet(job, budget.parse()),
         ["show", "job", digits @ ..] if !digits.is_empty() => show_sheet(digits, show::job),
         ["show", "plan", digits @ ..] if !digits.is_empty() => show_sheet(digits, show::plan),
         ["make", "job", "P"] => make_sheet(&samples::job_p()),
+        ["make", "job", "diffeq", steps] => make_diffeq_sheet(steps),
         ["make", "job", seed] => make_random_sheet(seed, samples::random_job),
         ["make", "plan", "1"] => make_sheet(&samples::plan_of_case_1()),
         ["make", "plan", seed] => make_random_sheet(seed, samples::random_plan),
@@ -73,6 +80,19 @@ fn judge_sheets(job: &str, plan: &str) -> ExitCode {
     print(&show::verdict(&verdict), status)
 }
 
+/// With room for every plan.
+fn search_sheet(job: &str, budget: Result<u32, ParseIntError>) -> ExitCode {
+    let (Some(job), Ok(budget)) = (hex::bytes_of(job), budget) else {
+        return usage();
+    };
+    let searched = search(&job, budget, usize::MAX);
+    let status = match searched {
+        Searched::Found { .. } => ExitCode::SUCCESS,
+        _ => ExitCode::FAILURE,
+    };
+    print(&show::searched(&searched), status)
+}
+
 fn show_sheet<F: Form>(digits: &[&str], text: fn(&F) -> String) -> ExitCode {
     let Some(sheet) = hex::bytes_of(&digits.concat()) else {
         return usage();
@@ -85,6 +105,16 @@ fn show_sheet<F: Form>(digits: &[&str], text: fn(&F) -> String) -> ExitCode {
 
 fn make_sheet(held: &impl Form) -> ExitCode {
     print(&(hex::digits_of(&held.sheet()) + "\n"), ExitCode::SUCCESS)
+}
+
+fn make_diffeq_sheet(steps: &str) -> ExitCode {
+    let line = diffeq::LINES
+        .iter()
+        .find(|line| line.steps.to_string() == steps);
+    match line {
+        Some(line) => make_sheet(&line.job()),
+        None => usage(),
+    }
 }
 
 fn make_random_sheet<F: Form>(seed: &str, draw: fn(&mut Random) -> F) -> ExitCode {

@@ -5,6 +5,10 @@ use crate::record::{all_zero, PlanRecord, Record, MAX_INSTANCES, MAX_OPERATIONS}
 use crate::refusal::{Fault, Paper};
 use crate::sheet::{Field, FieldName, Form};
 
+/// The largest numbers that the fields of a row hold.
+pub const LARGEST_START: u16 = 31;
+pub const LARGEST_INSTANCE: u16 = 15;
+
 const HEADER_WITHOUT_FORM: usize = 5 + 5;
 
 #[derive(Clone, Debug, PartialEq, Eq)]
@@ -13,7 +17,8 @@ pub struct Plan {
     pub rows: Vec<Row>,
 }
 
-#[derive(Clone, Copy, Debug, PartialEq, Eq)]
+/// Rows compare by start, then by instance.
+#[derive(Clone, Copy, Debug, PartialEq, Eq, PartialOrd, Ord)]
 pub struct Row {
     pub start: u16,
     pub instance: u16,
@@ -100,8 +105,12 @@ impl Form for Plan {
 
 fn fits_its_fields(record: &PlanRecord, n: usize, k: usize) -> bool {
     record.selection[..k].iter().all(|bit| *bit <= 1)
-        && record.starts[..n].iter().all(|start| *start <= 31)
-        && record.insts[..n].iter().all(|instance| *instance <= 15)
+        && record.starts[..n]
+            .iter()
+            .all(|start| *start <= LARGEST_START)
+        && record.insts[..n]
+            .iter()
+            .all(|instance| *instance <= LARGEST_INSTANCE)
 }
 
 fn unused_cells_are_zero(record: &PlanRecord, n: usize, k: usize) -> bool {

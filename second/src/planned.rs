@@ -4,7 +4,7 @@ use crate::job::{Ability, Job, UnitType};
 use crate::plan::{Plan, Row};
 use crate::random::Random;
 use crate::record::{KINDS, MAX_INSTANCES, MAX_LINKS, MAX_OPERATIONS, MAX_TYPES};
-use crate::rules::{chain_holds, precedence_holds, resource_holds, Place};
+use crate::rules::{are_live, selection_from, Place};
 use crate::samples::{
     empty_job, empty_plan, job_p, most_instances, most_links, plan_of_case_1, random_count,
     random_links, shared_copies, CANNOT,
@@ -103,7 +103,7 @@ fn random_grain(random: &mut Random) -> Grain {
 }
 
 /// A job whose times go well with its clock: several short operations fit into a step, long ones take a few steps.
-fn workable_job(random: &mut Random, size: Size) -> Job {
+pub fn workable_job(random: &mut Random, size: Size) -> Job {
     let grain = random_grain(random);
     let short_wire = random.between(0, grain.clock / 4);
     let any_wire = random.between(0, 1023);
@@ -190,8 +190,7 @@ fn first_live(
     for start in step..=job.deadline {
         for instance in (turn..k).chain(0..turn) {
             let instance = instance as u16;
-            let place = Place::of(job, operation, Row { start, instance });
-            places[operation] = place.filter(|place| place.finish() <= job.deadline);
+            places[operation] = Place::of(job, operation, Row { start, instance });
             if places[operation].is_some() && are_live(job, places) {
                 return true;
             }
@@ -199,10 +198,6 @@ fn first_live(
     }
     places[operation] = None;
     false
-}
-
-fn are_live(job: &Job, places: &[Option<Place>]) -> bool {
-    precedence_holds(job, places) && resource_holds(places) && chain_holds(job, places)
 }
 
 /// The plan's selection keeps selection order, and may hold more instances than the rows need.
@@ -215,15 +210,8 @@ fn plan_of_places(job: &Job, places: &[Option<Place>], random: &mut Random) -> P
             instance: place.instance,
         })
         .collect();
-    let mut selection = Vec::new();
-    for unit in &job.types {
-        let first = selection.len() as u16;
-        let end = first + unit.copies;
-        let used = rows.iter().map(|row| row.instance);
-        let first_used = used.filter(|used| (first..end).contains(used)).min();
-        let first_selected = random.often_extreme(first, first_used.unwrap_or(end));
-        selection.extend((first..end).map(|instance| instance >= first_selected));
-    }
+    let any_up_to_the_used = |first, first_used| random.often_extreme(first, first_used);
+    let selection = selection_from(job, &rows, any_up_to_the_used);
     Plan { selection, rows }
 }
 

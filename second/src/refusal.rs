@@ -1,4 +1,4 @@
-//! Refusals: a number and the paper at fault.
+//! Refusals: a number and the paper at fault. The search's two other outcomes without a plan have them too.
 
 #[derive(Clone, Copy, Debug, PartialEq, Eq)]
 pub enum Fault {
@@ -19,6 +19,8 @@ pub enum Fault {
     Resource = 17,
     Chain = 18,
     OutputTooShort = 22,
+    BudgetSpent = 30,
+    NoPlan = 31,
 }
 
 #[derive(Clone, Copy, Debug, PartialEq, Eq)]
@@ -38,6 +40,16 @@ impl Refusal {
     pub const OUTPUT_TOO_SHORT: Refusal = Refusal {
         fault: Fault::OutputTooShort,
         paper: Paper::Request,
+    };
+
+    pub const BUDGET_SPENT: Refusal = Refusal {
+        fault: Fault::BudgetSpent,
+        paper: Paper::Request,
+    };
+
+    pub const NO_PLAN: Refusal = Refusal {
+        fault: Fault::NoPlan,
+        paper: Paper::Job,
     };
 
     pub fn number(&self) -> u32 {
@@ -74,6 +86,8 @@ impl Refusal {
                  the times plus one wire for each link total more than the clock"
             }
             Fault::OutputTooShort => "output too short",
+            Fault::BudgetSpent => "visits exceed the budget",
+            Fault::NoPlan => "no plan meets the rules",
         }
     }
 }

@@ -39,6 +39,13 @@ impl Place {
     }
 }
 
+/// The place of each operation, None where its row gives it none, and where there is no row for it yet.
+pub fn places(job: &Job, rows: &[Row]) -> Vec<Option<Place>> {
+    (0..job.kinds.len())
+        .map(|operation| Place::of(job, operation, *rows.get(operation)?))
+        .collect()
+}
+
 /// What the row's instance does with the operation's kind. None where the instance is not below K.
 fn ability(job: &Job, operation: usize, row: Row) -> Option<Ability> {
     let unit = job.instance_types().nth(usize::from(row.instance))?;
@@ -160,10 +167,44 @@ fn total(job: &Job, places: &[Option<Place>], run: &[usize]) -> usize {
     times + usize::from(job.wire) * (run.len() - 1)
 }
 
+/// The operations placed are live: the rules on rows, precedence, resource and chain hold among them. Of the rule on
+/// rows the steps are left to ask for: only an able instance gives a place, and it is selected because it does.
+pub fn are_live(job: &Job, places: &[Option<Place>]) -> bool {
+    let in_steps = |place: &Place| place.start >= 1 && place.finish() <= job.deadline;
+    places.iter().flatten().all(in_steps)
+        && precedence_holds(job, places)
+        && resource_holds(places)
+        && chain_holds(job, places)
+}
+
+/// The smallest selection that holds the instances of these rows and keeps selection order.
+pub fn smallest_selection(job: &Job, rows: &[Row]) -> Vec<bool> {
+    selection_from(job, rows, |_, first_used| first_used)
+}
+
+/// Of each type the instances from one number on. `first_selected` gives it, from the type's first instance and the
+/// first that a row uses, or the end of the type where none does.
+pub fn selection_from(
+    job: &Job,
+    rows: &[Row],
+    mut first_selected: impl FnMut(u16, u16) -> u16,
+) -> Vec<bool> {
+    let mut selection = Vec::new();
+    for unit in &job.types {
+        let first = selection.len() as u16;
+        let end = first + unit.copies;
+        let used = rows.iter().map(|row| row.instance);
+        let first_used = used.filter(|used| (first..end).contains(used)).min();
+        let selected_from = first_selected(first, first_used.unwrap_or(end));
+        selection.extend((first..end).map(|instance| instance >= selected_from));
+    }
+    selection
+}
+
 /// The sum of costs of selected instances.
-pub fn cost(job: &Job, plan: &Plan) -> u32 {
+pub fn cost(job: &Job, selection: &[bool]) -> u32 {
     let mut cost = 0;
-    for (unit, selected) in job.instance_types().zip(&plan.selection) {
+    for (unit, selected) in job.instance_types().zip(selection) {
         if *selected {
             cost += u32::from(unit.cost);
         }

@@ -4,6 +4,7 @@ use crate::job::{Ability, Job, UnitType};
 use crate::plan::{Plan, Row};
 use crate::record::KINDS;
 use crate::refusal::Refusal;
+use crate::search::Searched;
 use crate::sheet::{Field, Form};
 
 pub fn refusal(refusal: &Refusal) -> String {
@@ -19,13 +20,31 @@ pub fn refusal(refusal: &Refusal) -> String {
 pub fn verdict(verdict: &Result<u32, Refusal>) -> String {
     match verdict {
         Ok(cost) => format!("passed, cost {cost}\n"),
-        Err(refusal) => format!(
-            "refused by {number}, paper {}\n{number} means: {}.\n",
-            refusal.paper as u32,
-            refusal.meaning(),
-            number = refusal.number(),
-        ),
+        Err(refusal) => numbered("refused", refusal, ""),
     }
+}
+
+/// What the search gives, its plan laid out as by itself.
+pub fn searched(searched: &Searched) -> String {
+    let after = |visits: &u32| format!(", visits {visits}");
+    match searched {
+        Searched::Found { best, visits } => format!(
+            "found, cost {}{}\n\n{}",
+            best.cost,
+            after(visits),
+            plan(&best.plan)
+        ),
+        Searched::None { visits } => numbered("none", &Refusal::NO_PLAN, &after(visits)),
+        Searched::Spent { budget } => numbered("spent", &Refusal::BUDGET_SPENT, &after(budget)),
+        Searched::Refused(refusal) => numbered("refused", refusal, ""),
+    }
+}
+
+/// An outcome by its number and paper, and what the number means.
+fn numbered(outcome: &str, refusal: &Refusal, rest: &str) -> String {
+    let (number, meaning) = (refusal.number(), refusal.meaning());
+    let paper = refusal.paper as u32;
+    format!("{outcome} by {number}, paper {paper}{rest}\n{number} means: {meaning}.\n")
 }
 
 pub fn job(job: &Job) -> String {
@@ -245,6 +264,7 @@ fn operations_at(plan: &Plan, instance: u16, step: u16) -> String {
 mod tests {
     use super::*;
     use crate::samples::{empty_job, empty_plan, full_job, full_plan, job_p, plan_of_case_1};
+    use crate::search::walk;
 
     #[test]
     fn the_fields_of_job_p_stand_at_their_bits() {
@@ -312,6 +332,17 @@ mod tests {
             refused,
             "refused by 22, paper 4\n22 means: output too short.\n"
         );
+    }
+
+    #[test]
+    fn a_search_tells_its_visits() {
+        let found = searched(&walk(&job_p(), 14));
+        let expected = format!("found, cost 40, visits 14\n\n{}", plan(&plan_of_case_1()));
+        assert_eq!(found, expected);
+        let spent = "spent by 30, paper 4, visits 13\n30 means: visits exceed the budget.\n";
+        assert_eq!(searched(&walk(&job_p(), 13)), spent);
+        let none = "none by 31, paper 0, visits 5\n31 means: no plan meets the rules.\n";
+        assert_eq!(searched(&Searched::None { visits: 5 }), none);
     }
 
     #[test]

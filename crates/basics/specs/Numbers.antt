@@ -60,6 +60,14 @@ chainBroken = 18
 abbrev pub outputShort : ℕ
 outputShort = 22
 
+-- the search needs more visits than its budget
+abbrev pub budgetSpent : ℕ
+budgetSpent = 30
+
+-- no plan meets the rules
+abbrev pub noPlan : ℕ
+noPlan = 31
+
 -- ---- papers
 
 abbrev pub paperJob : ℕ
@@ -78,6 +86,15 @@ outcomeRefused = 0
 
 abbrev pub outcomePassed : ℕ
 outcomePassed = 1
+
+abbrev pub outcomeFound : ℕ
+outcomeFound = 2
+
+abbrev pub outcomeNone : ℕ
+outcomeNone = 3
+
+abbrev pub outcomeSpent : ℕ
+outcomeSpent = 4
 
 abbrev pub outcomeWritten : ℕ
 outcomeWritten = 6

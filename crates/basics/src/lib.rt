@@ -41,6 +41,10 @@ pub const CHAIN_BROKEN: u32 = 18;
 
 pub const OUTPUT_SHORT: u32 = 22;
 
+pub const BUDGET_SPENT: u32 = 30;
+
+pub const NO_PLAN: u32 = 31;
+
 // The numbers of papers.
 pub const PAPER_JOB: u32 = 0;
 
@@ -52,6 +56,12 @@ pub const PAPER_REQUEST: u32 = 4;
 pub const REFUSED: u32 = 0;
 
 pub const PASSED: u32 = 1;
+
+pub const FOUND: u32 = 2;
+
+pub const NONE: u32 = 3;
+
+pub const SPENT: u32 = 4;
 
 pub const WRITTEN: u32 = 6;
 

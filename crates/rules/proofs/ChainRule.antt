@@ -11,14 +11,13 @@ use borrow.Author.Tests.{leb-true, ltb-true, eqb-true, le-leb, lt-ltb, eq-eqb}
 use lib.Dec.{eqb}
 use lib.ListN.{length}
 use Rattle.basics.specs.Tables.{cell}
-use Rattle.basics.proofs.CountLaws.{and-both, both-and, allTo-each, each-allTo}
+use Rattle.basics.proofs.CountLaws.{and-both, both-and, asked, where-asked, allTo-each, each-allTo}
 use Rattle.basics.proofs.TableLaws.{cell-replicate}
 use Rattle.sheets.specs.Limits.{opCells}
 use Rattle.sheets.specs.declared.Job.{Job}
 use Rattle.sheets.proofs.RecordLaws.{JobSound}
 use Rattle.rules.specs.Rules.{placed, joins, sameStep, carried, broughtBy, runOk, runOkAt, chainsOk}
 use Rattle.rules.specs.Meets.{Link, Joined, AllIn, runTotal, RunsFit}
-use Rattle.rules.proofs.RuleLaws.{asked, where-asked}
 use Rattle.rules.proofs.ChainLaws.{raised-here, raised-there, brings-on, brings-off, brings-length}
 
 module _ (j : Job) (sound : JobSound j) (starts times : List ℕ) where

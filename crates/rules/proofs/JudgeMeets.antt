@@ -10,7 +10,7 @@ use borrow.Author.Tests.{eqb-true, ltb-true, eq-eqb, lt-ltb}
 use lib.Dec.{lit<}
 use Rattle.basics.specs.Numbers.{countsDiffer, orderBroken, precedenceBroken, resourceBroken, chainBroken}
 use Rattle.basics.specs.Tables.{cell}
-use Rattle.basics.proofs.CountLaws.{and-both, both-and, allTo-each, each-allTo, sumTo-most, only-small}
+use Rattle.basics.proofs.CountLaws.{and-both, both-and, asked, where-asked, allTo-each, each-allTo, sumTo-most, only-small}
 use Rattle.basics.proofs.FaultLaws.{orElse-none, none-orElse, unless-none, none-unless, first-none, none-first}
 use Rattle.basics.proofs.TableLaws.{cell-cells}
 use Rattle.sheets.specs.Limits.{opCells, costBits}
@@ -33,7 +33,7 @@ use Rattle.rules.specs.Meets.{Link, Joined, runTotal, RunsFit, start, in
 use Rattle.rules.proofs.ChainRule.{chain-rule}
 use Rattle.rules.proofs.JudgeLaws.{counts-agree}
 use Rattle.rules.proofs.ModelLaws.{types-rise}
-use Rattle.rules.proofs.RuleLaws.{asked, where-asked, order-says, says-order, none-row, row-none, precedes-says, says-precedes, resource-says, says-resource}
+use Rattle.rules.proofs.RuleLaws.{order-says, says-order, none-row, row-none, precedes-says, says-precedes, resource-says, says-resource}
 
 module _ (j : Job) (p : Plan) (sound : JobSound j) where
   abbrev timing : Timing

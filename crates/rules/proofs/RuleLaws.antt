@@ -10,28 +10,12 @@ use borrow.Author.Tests.{leb-true, ltb-true, eqb-true, le-leb, lt-ltb, eq-eqb, n
 use lib.Dec.{ltb, leb, eqb, lit<}
 use Rattle.basics.specs.Numbers.{rowInstance, rowKind, rowUnselected, rowStep}
 use Rattle.basics.specs.Tables.{cell}
-use Rattle.basics.proofs.CountLaws.{and-both, both-and, either, allTo-each, each-allTo}
+use Rattle.basics.proofs.CountLaws.{and-both, both-and, either, either-left, either-right, allTo-each, each-allTo}
 use Rattle.basics.proofs.FaultLaws.{orElse-none, none-orElse, unless-none, none-unless}
 use Rattle.rules.specs.Selection.{selected, orderAt, orderOk}
 use Rattle.rules.specs.Rules.{finish, rowFault, placed, precedes, apart, shareOk, besideOk, resourceOk}
 
 -- ---- tests
-
-pub either-left : (a b : Bool) → a ≡ true → a || b ≡ true
-either-left a b h = rw h
-
-pub either-right : (a b : Bool) → b ≡ true → a || b ≡ true
-either-right true b h = refl
-either-right false b h = h
-
--- a test asked only where another holds
-pub asked : (a b : Bool) → a ≡ true → not a || b ≡ true → b ≡ true
-asked true b e h = h
-asked false b e h = absurd (let z : _≡_ {A = ℕ} 0 1 = cc in omega arith)
-
-pub where-asked : (a b : Bool) → (a ≡ true → b ≡ true) → not a || b ≡ true
-where-asked true b h = h refl
-where-asked false b h = refl
 
 not-off : {a : Bool} → a ≡ false → not a ≡ true
 not-off h = rw h

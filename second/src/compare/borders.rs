@@ -82,7 +82,7 @@ fn at_every_two_starts(comparison: &mut Comparison, job: &[u8], last: u16) -> Ch
 }
 
 /// Its deadline is the last step tried or one of the two before.
-fn job_of_two_operations(random: &mut Random, last: u16) -> Job {
+pub fn job_of_two_operations(random: &mut Random, last: u16) -> Job {
     let clock = *random.pick(&[1, 2, 10, 100, 255, 256]);
     let mut abilities = [CANNOT; KINDS];
     for ability in &mut abilities[..2] {
@@ -166,7 +166,7 @@ fn many_runs(comparison: &mut Comparison, random: &mut Random) -> Checked {
 }
 
 /// `n` operations and as many instances, every instance able to do every kind; times and wire go up to `most`.
-fn job_in_one_step(random: &mut Random, n: usize, most: u16) -> Job {
+pub fn job_in_one_step(random: &mut Random, n: usize, most: u16) -> Job {
     let types = random.between(n.div_ceil(7) as u16, n.min(MAX_TYPES) as u16);
     let copies = shared_copies(random, types.into(), n as u16);
     let mut able_unit = |copies| UnitType {

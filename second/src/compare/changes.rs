@@ -1,11 +1,8 @@
 //! Plans made from a plan by changing its counts, its selection or its rows.
 
-use crate::plan::{Plan, Row};
+use crate::plan::{Plan, Row, LARGEST_INSTANCE, LARGEST_START};
 use crate::random::Random;
 use crate::record::{MAX_INSTANCES, MAX_OPERATIONS};
-
-const LARGEST_START: u16 = 31;
-const LARGEST_INSTANCE: u16 = 15;
 
 /// One row or one selection bit more or less, or none left, as far as a plan's limits allow.
 pub fn other_counts(plan: &Plan) -> Vec<Plan> {

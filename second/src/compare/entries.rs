@@ -1,10 +1,13 @@
 //! Each entry of the library beside this program's own, for one input.
 
 use super::tally::Tally;
+use crate::every_plan::cheapest;
 use crate::hex;
+use crate::job::Job;
 use crate::judge::judge;
-use crate::library::{judge_by_library, Answer, Entries, Entry, Reading};
-use crate::refusal::Refusal;
+use crate::library::{judge_by_library, search_by_library, Answer, Entries, Entry, Reading};
+use crate::search::{search, walk, Searched};
+use crate::sheet::Form;
 use std::fmt::{self, Debug};
 
 /// Bytes kept around every output; no entry may touch them.
@@ -14,41 +17,47 @@ pub struct Comparison {
     pub tally: Tally,
 }
 
+/// Two that were asked the same, each with its answer; the second ought to answer as the first.
 pub struct Disagreement {
     entry: Entry,
     input: String,
-    own: String,
-    library: String,
+    asked: Pair,
+    answers: [String; 2],
 }
+
+/// The names of the two.
+type Pair = [&'static str; 2];
+
+const LIBRARY: Pair = ["second program", "library"];
 
 pub type Checked = Result<(), Disagreement>;
 
 impl Disagreement {
     pub fn text(&self) -> String {
+        let [one, other] = self.asked;
+        let [of_one, of_other] = &self.answers;
         format!(
-            "{}: the library disagrees\n\ninput:\n{}\n\nsecond program:\n{}\n\nlibrary:\n{}\n",
+            "{}: the {other} disagrees\n\ninput:\n{}\n\n{one}:\n{of_one}\n\n{other}:\n{of_other}\n",
             self.entry.name(),
             self.input,
-            self.own,
-            self.library
         )
     }
 }
 
 fn agree<Reply: Debug + PartialEq>(
     entry: Entry,
+    asked: Pair,
     input: impl Fn() -> String,
-    own: &Reply,
-    library: &Reply,
+    [one, other]: [&Reply; 2],
 ) -> Checked {
-    if own == library {
+    if one == other {
         return Ok(());
     }
     Err(Disagreement {
         entry,
         input: input(),
-        own: format!("{own:?}"),
-        library: format!("{library:?}"),
+        asked,
+        answers: [one, other].map(|reply| format!("{reply:?}")),
     })
 }
 
@@ -62,28 +71,54 @@ impl Comparison {
     pub fn read<F: Entries>(&mut self, sheet: &[u8]) -> Checked {
         let own = Reading::of(F::read(sheet));
         self.tally.count(F::READER, &own.answer);
-        agree(
-            F::READER,
-            || sheet_text(sheet),
-            &own,
-            &F::read_by_library(sheet),
-        )
+        let library = F::read_by_library(sheet);
+        let input = || sheet_text(sheet);
+        agree(F::READER, LIBRARY, input, [&own, &library])
     }
 
     pub fn write<F: Entries>(&mut self, record: &F::Record, room: usize) -> Checked {
         let before = self.untouched_output(room);
-        let own = own_write(F::write(record, room), &before);
+        let own = match F::write(record, room) {
+            Ok(sheet) => own_write(Answer::written(sheet.len()), &sheet, &before),
+            Err(refusal) => own_write(Answer::refused(refusal), &[], &before),
+        };
         self.tally.count(F::WRITER, &own.answer);
-        let library = library_write::<F>(record, &before);
+        let library = library_write(&before, |out| F::write_by_library(record, out));
         let input = || format!("{record:?}\ninto {room} bytes");
-        agree(F::WRITER, input, &own, &library)
+        agree(F::WRITER, LIBRARY, input, [&own, &library])
     }
 
     pub fn judge(&mut self, job: &[u8], plan: &[u8]) -> Checked {
         let own = Answer::judged(judge(job, plan));
         self.tally.count(Entry::Judge, &own);
         let input = || format!("job, {}\nplan, {}", sheet_text(job), sheet_text(plan));
-        agree(Entry::Judge, input, &own, &judge_by_library(job, plan))
+        let library = judge_by_library(job, plan);
+        agree(Entry::Judge, LIBRARY, input, [&own, &library])
+    }
+
+    pub fn search(&mut self, job: &[u8], budget: u32, room: usize) -> Checked {
+        let before = self.untouched_output(room);
+        let searched = search(job, budget, room);
+        let own = own_write(Answer::searched(&searched), &searched.sheet(), &before);
+        self.tally.count(Entry::Search, &own.answer);
+        let library = library_write(&before, |out| search_by_library(job, budget, out));
+        let input = || {
+            let job = sheet_text(job);
+            format!("job, {job}\nbudget {budget}, into {room} bytes")
+        };
+        agree(Entry::Search, LIBRARY, input, [&own, &library])
+    }
+
+    /// The best of the walk beside that of all plans judged. The library is not asked.
+    pub fn walk(&mut self, job: &Job) -> Checked {
+        const WALK: Pair = ["judge of every plan", "walk"];
+        let of_the_walk = match walk(job, u32::MAX) {
+            Searched::Found { best, .. } => Some(best),
+            _ => None,
+        };
+        self.tally.walks_confirmed += 1;
+        let input = || sheet_text(&job.sheet());
+        agree(Entry::Search, WALK, input, [&cheapest(job), &of_the_walk])
     }
 
     /// A sound job or plan: its sheet read, its record written, and there and back by the library alone.
@@ -97,7 +132,8 @@ impl Comparison {
         self.tally.round_trips += 1;
         let input = || format!("the sheet of {record:?}\nread, and the record read written");
         let own = (record, Answer::written(sheet.len()), sheet);
-        agree(F::WRITER, input, &own, &(read, answer, output))
+        let library = (read, answer, output);
+        agree(F::WRITER, LIBRARY, input, [&own, &library])
     }
 
     /// An output and its margins: no byte is zero, and each comparison finds other bytes there.
@@ -115,7 +151,7 @@ fn sheet_text(sheet: &[u8]) -> String {
     format!("{} bytes: {}", sheet.len(), hex::digits_of(sheet))
 }
 
-/// What a writer leaves: its answer, and the whole output with its margins before and after the call.
+/// What an entry that writes leaves: its answer, and the whole output with its margins before and after the call.
 #[derive(PartialEq, Eq)]
 struct Written {
     answer: Answer,
@@ -138,15 +174,10 @@ impl Debug for Written {
     }
 }
 
-fn own_write(written: Result<Vec<u8>, Refusal>, before: &[u8]) -> Written {
+/// What ought to be left: the sheet at the front of the output.
+fn own_write(answer: Answer, sheet: &[u8], before: &[u8]) -> Written {
     let mut after = before.to_vec();
-    let answer = match written {
-        Ok(sheet) => {
-            after[MARGIN..MARGIN + sheet.len()].copy_from_slice(&sheet);
-            Answer::written(sheet.len())
-        }
-        Err(refusal) => Answer::refused(refusal),
-    };
+    after[MARGIN..MARGIN + sheet.len()].copy_from_slice(sheet);
     Written {
         answer,
         before: before.to_vec(),
@@ -154,10 +185,10 @@ fn own_write(written: Result<Vec<u8>, Refusal>, before: &[u8]) -> Written {
     }
 }
 
-fn library_write<F: Entries>(record: &F::Record, before: &[u8]) -> Written {
+fn library_write(before: &[u8], entry: impl Fn(&mut [u8]) -> Answer) -> Written {
     let mut after = before.to_vec();
     let end = after.len() - MARGIN;
-    let answer = F::write_by_library(record, &mut after[MARGIN..end]);
+    let answer = entry(&mut after[MARGIN..end]);
     Written {
         answer,
         before: before.to_vec(),
@@ -168,6 +199,7 @@ fn library_write<F: Entries>(record: &F::Record, before: &[u8]) -> Written {
 #[cfg(test)]
 mod tests {
     use super::*;
+    use crate::refusal::Refusal;
 
     #[test]
     fn untouched_outputs_hold_no_zero_and_change() {
@@ -183,9 +215,9 @@ mod tests {
     #[test]
     fn a_refused_write_leaves_the_output() {
         let before = [7; 2 * MARGIN + 3];
-        let refused = own_write(Err(Refusal::OUTPUT_TOO_SHORT), &before);
+        let refused = own_write(Answer::refused(Refusal::OUTPUT_TOO_SHORT), &[], &before);
         assert_eq!(refused.after, before);
-        let written = own_write(Ok(vec![1, 2]), &before);
+        let written = own_write(Answer::written(2), &[1, 2], &before);
         assert_eq!(written.after[MARGIN - 1..MARGIN + 3], [7, 1, 2, 7]);
     }
 }

@@ -4,10 +4,12 @@ mod borders;
 mod changes;
 mod entries;
 mod faults;
+mod job_papers;
 mod judging;
 mod mixes;
 mod papers;
 mod records;
+mod searching;
 mod sheets;
 mod tally;
 
@@ -18,7 +20,7 @@ use std::time::Instant;
 
 type Phase = fn(&mut Comparison, &mut Random, usize) -> Checked;
 
-const PHASES: [(&str, Phase); 21] = [
+const PHASES: [(&str, Phase); 31] = [
     ("sheets of every size", sheets::every_size),
     ("sound sheets and records", sheets::sound),
     ("every number in every header field", sheets::every_header),
@@ -43,6 +45,25 @@ const PHASES: [(&str, Phase); 21] = [
     ("runs up to the clock", borders::runs),
     ("jobs and plans damaged", papers::damaged),
     ("jobs and plans of random bytes", papers::random_bytes),
+    ("known jobs searched", searching::known),
+    (
+        "walks beside every plan judged",
+        searching::every_plan_judged,
+    ),
+    ("small jobs searched", searching::small_jobs),
+    (
+        "every budget of short walks",
+        searching::every_budget_of_short_walks,
+    ),
+    (
+        "outputs of every length, searched",
+        searching::every_room_of_small_jobs,
+    ),
+    ("searches where a rule just holds", searching::borders),
+    ("large jobs searched", searching::large_jobs),
+    ("jobs at their limits searched", searching::limits),
+    ("damaged jobs searched", job_papers::damaged),
+    ("jobs of random bytes searched", job_papers::random_bytes),
 ];
 
 /// Tries each of the samples, up to the first disagreement.
@@ -76,11 +97,13 @@ fn report(comparison: &Comparison, seed: u64, count: usize) -> ExitCode {
     let tally = &comparison.tally;
     println!("seed {seed}, count {count}: no disagreement");
     println!(
-        "{} comparisons, {} round trips",
+        "{} comparisons, {} round trips, {} walks confirmed by judging every plan",
         tally.total(),
-        tally.round_trips
+        tally.round_trips,
+        tally.walks_confirmed
     );
-    println!("\nrefusals met, by paper and number; alone, plans that break no other rule:");
+    println!("\nrefusals met, by paper and number, with the search's 30 (spent) and 31 (none);");
+    println!("alone, plans that break no other rule:");
     println!("{}", tally.table());
     let met_too_seldom = tally.met_too_seldom();
     for line in &met_too_seldom {

@@ -15,7 +15,7 @@ use crate::sheet::Form;
 const ROOMY: usize = 300;
 
 /// The first length whose low 16 bits are zero.
-const VAST: usize = 0x1_0000;
+pub const VAST: usize = 0x1_0000;
 
 /// Every limit, the number beyond it, a number whose low byte is zero, and the largest number of a cell.
 const EDGES: [u16; 26] = [

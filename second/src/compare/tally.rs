@@ -4,16 +4,20 @@ use crate::library::{Answer, Entry};
 use std::collections::{BTreeMap, BTreeSet};
 use std::ops::RangeInclusive;
 
-/// The numbers of judging, and how often each must be met at least: among all plans, and as the one rule broken.
+/// The numbers of judging. Each must be met often among all plans, and as the one rule broken.
 const JUDGING: RangeInclusive<u32> = 10..=18;
-const LEAST_OF_JUDGING: u64 = 20;
+
+/// How often a number of judging and every answer of the search must be met at least.
+const OFTEN: u64 = 20;
 
 pub struct Tally {
     answers: BTreeMap<(Entry, Outcome), u64>,
     alone: BTreeMap<u32, u64>,
     pub round_trips: u64,
+    pub walks_confirmed: u64,
 }
 
+/// The search's outcomes spent and none are counted by paper and number, as refusals are.
 #[derive(Clone, Copy, PartialEq, Eq, PartialOrd, Ord)]
 enum Outcome {
     Done,
@@ -26,11 +30,12 @@ impl Tally {
             answers: BTreeMap::new(),
             alone: BTreeMap::new(),
             round_trips: 0,
+            walks_confirmed: 0,
         }
     }
 
     pub fn count(&mut self, entry: Entry, answer: &Answer) {
-        let outcome = if answer.is_refusal() {
+        let outcome = if answer.has_number() {
             let (paper, number) = (answer.paper, answer.number);
             Outcome::Refused { paper, number }
         } else {
@@ -75,18 +80,19 @@ impl Tally {
         for entry in Entry::ALL {
             let name = entry.name();
             let done = self.times(entry, Outcome::Done);
-            require(format!("{name}, anything but a refusal"), done, 1);
+            let least = if entry == Entry::Search { OFTEN } else { 1 };
+            require(format!("{name}, anything but a refusal"), done, least);
             for (paper, number) in refusals_of(entry) {
                 let times = self.times(entry, Outcome::Refused { paper, number });
                 let of_judging = JUDGING.contains(&number);
-                let least = if of_judging { LEAST_OF_JUDGING } else { 1 };
+                let least = if of_judging { OFTEN } else { least };
                 let what = format!("{name}, refusal {number}, paper {paper}");
                 require(what, times, least);
             }
         }
         for number in JUDGING {
             let what = format!("plans that break no rule but {number}");
-            require(what, self.times_alone(number), LEAST_OF_JUDGING);
+            require(what, self.times_alone(number), OFTEN);
         }
         lines
     }
@@ -144,8 +150,10 @@ fn refusals_of(entry: Entry) -> Vec<(u32, u32)> {
 mod tests {
     use super::*;
     use crate::refusal::{Fault, Paper, Refusal};
+    use crate::samples::empty_job;
+    use crate::search::{walk, Searched};
 
-    const EVERY_ANSWER: usize = (1 + 6) + (1 + 5) + (1 + 4) + (1 + 3) + (1 + 6 + 13);
+    const EVERY_ANSWER: usize = (1 + 6) + (1 + 5) + (1 + 4) + (1 + 3) + (1 + 6 + 13) + (1 + 7 + 2);
 
     #[test]
     fn an_answer_never_met_is_named() {
@@ -185,6 +193,30 @@ mod tests {
     }
 
     #[test]
+    fn every_answer_of_the_search_must_be_met_20_times() {
+        let mut tally = Tally::new();
+        let answers = [
+            Searched::None { visits: 1 },
+            Searched::Spent { budget: 1 },
+            Searched::Refused(Refusal::OUTPUT_TOO_SHORT),
+            walk(&empty_job(), 1),
+        ]
+        .map(|searched| Answer::searched(&searched));
+        let named = |tally: &Tally| {
+            let lines = tally.met_too_seldom();
+            let of_search = lines.iter().filter(|line| line.starts_with("search, "));
+            of_search.count()
+        };
+        assert_eq!(named(&tally), 1 + 7 + 2);
+        for times in 1..=20 {
+            for answer in &answers {
+                tally.count(Entry::Search, answer);
+            }
+            assert_eq!(named(&tally), if times < 20 { 10 } else { 6 });
+        }
+    }
+
+    #[test]
     fn papers_are_told_apart_in_the_table() {
         let mut tally = Tally::new();
         for paper in [Paper::Job, Paper::Plan, Paper::Plan] {
@@ -194,7 +226,8 @@ mod tests {
         let table = tally.table();
         let judged = |title: &str| {
             let line = table.lines().find(|line| line.starts_with(title));
-            line.and_then(|line| line.split_whitespace().last())
+            let mut cells = line?[title.len()..].split_whitespace();
+            cells.nth(Entry::Judge as usize)
         };
         assert_eq!(judged("paper 0,  1"), Some("1"));
         assert_eq!(judged("paper 1,  1"), Some("2"));

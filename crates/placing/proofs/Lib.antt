@@ -1,0 +1,9 @@
+pub mod BoundLaws
+pub mod ListLaws
+pub mod BoardLaws
+pub mod CostLaws
+pub mod PartLaws
+pub mod SelectionLaws
+pub mod OptionLaws
+pub mod FitLaws
+pub mod FitSteps

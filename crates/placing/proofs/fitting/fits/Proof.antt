@@ -1,0 +1,77 @@
+-- Each test in its turn.
+use Rattle.placing.proofs.FitSteps.{by-chain, no-chain, no-links, no-row, no-shares}
+use Rattle.placing.specs.Bound.{taken}
+use Rattle.placing.specs.Fitting.{chained}
+use borrow.Author.Needs.{needs}
+use borrow.Author.Tests.{not-false, not-true}
+use Rattle.placing.proofs.fitting.fits.Statement.{statement}
+use Rattle.placing.proofs.fitting.fits.Tie as tie
+use Rattle.placing.proofs.fitting.fits.Reads as reads
+use Rattle.placing.proofs.fitting.fits.Lts as lts
+use Rattle.placing.proofs.fitting.chained.Reads as chained-reads
+use Rattle.placing.proofs.fitting.chains_fit.Reads as chains-fit-reads
+use Rattle.placing.proofs.fitting.links_fit.Reads as links-fit-reads
+use Rattle.placing.proofs.fitting.shares_fit.Reads as shares-fit-reads
+use Rattle.placing.proofs.fitting.unit_at.Reads as unit-at-reads
+
+unit-at-requires : tie.Need-unit-at-requires
+unit-at-requires c κs = search needs
+
+returns : tie.Need-returns
+returns c = no-row _ _ _ _ _ _ _ _ _ _ _ _ _ _ _ _ (c .before .unit-at .ensures .0) (c .if1 .taken)
+
+unit-at-requires-2 : tie.Need-unit-at-requires-2
+unit-at-requires-2 c κs = search needs
+
+unit-at-requires-3 : tie.Need-unit-at-requires-3
+unit-at-requires-3 c κs = search needs
+
+links-fit-requires : tie.Need-links-fit-requires
+links-fit-requires c κs = search needs
+
+returns-2 : tie.Need-returns-2
+returns-2 c =
+    no-links _ _ _ _ _ _ _ _ _ _ _ _ _ _ _ _ (c .before .before .before .before .before .before .unit-at .ensures .0) (c .before .before .before .before .before .if1 .left) (c .before .before .before .before .unit-at2 .ensures .0) (c .before .before .before .unit-at3 .ensures .0) (c .before .links-fit .ensures) (not-true _ (c .if2 .taken))
+
+unit-at-requires-4 : tie.Need-unit-at-requires-4
+unit-at-requires-4 c κs = search needs
+
+shares-fit-requires : tie.Need-shares-fit-requires
+shares-fit-requires c κs = search needs
+
+returns-3 : tie.Need-returns-3
+returns-3 c =
+    no-shares _ _ _ _ _ _ _ _ _ _ _ _ _ _ _ _ (c .before .before .before .before .before .before .before .before .before .before .unit-at .ensures .0) (c .before .before .before .before .before .before .before .before .before .if1 .left) (c .before .before .before .before .before .before .before .before .unit-at2 .ensures .0) (c .before .before .before .before .before .before .before .unit-at3 .ensures .0) (c .before .before .before .before .before .links-fit .ensures) (not-false _ (c .before .before .before .before .if2 .left)) (c .before .before .before .unit-at4 .ensures .0) (c .before .shares-fit .ensures) (not-true _ (c .if3 .taken))
+
+chained-requires : tie.Need-chained-requires
+chained-requires c κs = search needs
+
+returns-4 : tie.Need-returns-4
+returns-4 c =
+    no-chain _ _ _ _ _ _ _ _ _ _ _ _ _ _ _ _ (c .before .before .before .before .before .before .before .before .before .before .before .before .before .unit-at .ensures .0) (c .before .before .before .before .before .before .before .before .before .before .before .before .if1 .left) (c .before .before .before .before .before .before .before .before .before .before .before .unit-at2 .ensures .0) (c .before .before .before .before .before .before .before .before .before .before .unit-at3 .ensures .0) (c .before .before .before .before .before .before .before .before .links-fit .ensures) (not-false _ (c .before .before .before .before .before .before .before .if2 .left)) (c .before .before .before .before .before .before .unit-at4 .ensures .0) (c .before .before .before .before .shares-fit .ensures) (not-false _ (c .before .before .before .if3 .left)) (c .before .chained .ensures) (not-true _ (c .if4 .taken))
+
+chains-fit-requires : tie.Need-chains-fit-requires
+chains-fit-requires c κs =
+    (c .before .before .before .before .before .before .before .before .before .before .before .before .before .before .before .before .before .before .before .before .before .before .pre .1, c .before .before .before .before .before .before .before .before .before .before .before .before .before .before .before .before .before .before .before .before .before .before .pre .3)
+
+returns-5 : tie.Need-returns-5
+returns-5 c =
+    by-chain _ _ _ _ _ _ _ _ _ _ _ _ _ _ _ _ (c .before .before .before .before .before .before .before .before .before .before .before .before .before .before .unit-at .ensures .0) (c .before .before .before .before .before .before .before .before .before .before .before .before .before .if1 .left) (c .before .before .before .before .before .before .before .before .before .before .before .before .unit-at2 .ensures .0) (c .before .before .before .before .before .before .before .before .before .before .before .unit-at3 .ensures .0) (c .before .before .before .before .before .before .before .before .before .links-fit .ensures) (not-false _ (c .before .before .before .before .before .before .before .before .if2 .left)) (c .before .before .before .before .before .before .before .unit-at4 .ensures .0) (c .before .before .before .before .before .shares-fit .ensures) (not-false _ (c .before .before .before .before .if3 .left)) (c .before .before .chained .ensures) (not-false _ (c .before .if4 .left)) (c .chains-fit .ensures)
+
+pub fits-spec : {M : Type 1} → statement M
+fits-spec =
+    tie.close
+    (tie.spec
+    unit-at-requires
+    returns
+    unit-at-requires-2
+    unit-at-requires-3
+    links-fit-requires
+    returns-2
+    unit-at-requires-4
+    shares-fit-requires
+    returns-3
+    chained-requires
+    returns-4
+    chains-fit-requires
+    returns-5)

@@ -1,0 +1,49 @@
+// The smallest selection and its cost, while rows are placed one by one and at the end.
+ghost use mathlib.Core.Path.{_≡_};
+ghost use Prim.Native.Nat.{_≤_};
+ghost use Rattle.rules.specs.Selection.{selectionCost};
+ghost use Rattle.sheets.specs.Limits.{instCells};
+ghost use Rattle.placing.specs.Costing.{reached as reachedBy, costWith};
+use basics::cell;
+
+// Instance i is needed: it is not before the lowest needed one of its type.
+fn reached<'a>(types: &'a [u16], lows: &'a [u16], i: usize) -> bool
+    ensures { λ r. ⌜ r ≡ reachedBy (now (types .entry)) (now (lows .entry)) i ⌝ }
+{
+    let y = cell(types, i) as usize;
+    cell(lows, y) as usize <= i
+}
+
+// What the needed ones of k instances cost.
+fn cost_of<'a>(types: &'a [u16], costs: &'a [u16], lows: &'a [u16], k: usize) -> u32
+    requires { ⌜ k ≤ instCells ⌝ }
+    ensures { λ r. ⌜ r ≡ selectionCost (now (costs .entry)) (now (types .entry)) (reachedBy (now (types .entry)) (now (lows .entry))) k ⌝ }
+{
+    let mut sum: u32 = 0;
+    let mut i: usize = 0;
+    while i < k {
+        let y = cell(types, i) as usize;
+        sum += basics::only(reached(types, lows, i), cell(costs, y) as u32);
+        i += 1;
+    }
+    sum
+}
+
+// The cost with instance i, where it was `here` with lowest instance `low` of its type.
+pub fn cost_with<'a>(
+    types: &'a [u16],
+    costs: &'a [u16],
+    lows: &'a [u16],
+    k: usize,
+    here: u32,
+    low: u16,
+    i: usize,
+) -> u32
+    requires { ⌜ k ≤ instCells ⌝ }
+    ensures { λ r. ⌜ r ≡ costWith (now (types .entry)) (now (costs .entry)) (now (lows .entry)) k here low i ⌝ }
+{
+    if low as usize <= i {
+        return here;
+    }
+    cost_of(types, costs, lows, k)
+}
