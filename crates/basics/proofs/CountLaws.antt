@@ -50,6 +50,10 @@ pub allTo-more : (test : ℕ → Bool) (n : ℕ) → allTo test (n + 1) ≡ allT
 unfolding allTo
 allTo-more test n = rw add-one
 
+pub anyTo-more : (test : ℕ → Bool) (n : ℕ) → anyTo test (n + 1) ≡ anyTo test n || test n
+unfolding anyTo
+anyTo-more test n = rw add-one
+
 pub sumTo-more : (f : ℕ → ℕ) (n : ℕ) → sumTo f (n + 1) ≡ sumTo f n + f n
 unfolding sumTo
 sumTo-more f n = rw add-one

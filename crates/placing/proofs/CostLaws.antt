@@ -23,7 +23,7 @@ use Rattle.rules.specs.Rules.{placed}
 use Rattle.rules.specs.Selection.{costAt, selectionCost}
 use Rattle.placing.specs.declared.Board.{Board}
 use Rattle.placing.specs.Board.{boardOf, OfJob}
-use Rattle.placing.specs.Placing.{Placing, wants, needed, cost}
+use Rattle.placing.specs.Placing.{Placing, wants, needed, cost, neededIn, wantsIn}
 use Rattle.placing.specs.Options.{none, put}
 use Rattle.placing.specs.Costing.{reached, lowered, costIf, costWith, Tracks}
 
@@ -93,7 +93,7 @@ module _ (b : Board) (p : Placing) (i o : ℕ) where
   inst = cell (p .insts) o
 
   pub wants-says : wants b p i o ≡ true → (placed (p .starts) o ≡ true) × (cell (b .types) inst ≡ cell (b .types) i) × (inst ≤ i)
-  unfolding wants
+  unfolding wantsIn
   wants-says h =
       let same : Bool = eqb (cell (b .types) inst) (cell (b .types) i) in
       let w = and-both (placed (p .starts) o && same) (leb inst i) h in
@@ -101,7 +101,7 @@ module _ (b : Board) (p : Placing) (i o : ℕ) where
       (v .0, eqb-true _ _ (v .1), leb-true _ _ (w .1))
 
   pub says-wants : placed (p .starts) o ≡ true → cell (b .types) inst ≡ cell (b .types) i → inst ≤ i → wants b p i o ≡ true
-  unfolding wants
+  unfolding wantsIn
   says-wants h e l = both-and _ _ (both-and _ _ h (eq-eqb _ _ e)) (le-leb inst i l)
 
 -- ---- nothing placed
@@ -115,7 +115,7 @@ pub none-unplaced : (o : ℕ) → placed (none .starts) o ≡ true → ⊥
 none-unplaced o h = omega (arith, ltb-true 0 (cell (none .starts) o) h, cell-replicate opCells o)
 
 pub none-needed : (b : Board) (i : ℕ) → needed b none i ≡ false
-unfolding needed
+unfolding neededIn
 none-needed b i =
     fails (needed b none i) (λ e.
     let w = anyTo-some (wants b none i) (b .n) e in
@@ -178,7 +178,7 @@ module _ (b : Board) (p : Placing) (op s i : ℕ) (few : op < b .n) (free : cell
   more = put p op (record { start = s; inst = i })
 
   put-says : (x : ℕ) → needed b more x ≡ true → (needed b p x ≡ true) ⊎ ((cell (b .types) i ≡ cell (b .types) x) × (i ≤ x))
-  unfolding needed
+  unfolding neededIn
   put-says x h = go (ℕ-discrete (w .number) op)
     where
       w : Some (wants b more x) (b .n)
@@ -199,7 +199,7 @@ module _ (b : Board) (p : Placing) (op s i : ℕ) (few : op < b .n) (free : cell
           (says-wants b p x (w .number) (rw r at (v .0)) (rw q at (v .1)) (rw q at (v .2))))
 
   says-put : (x : ℕ) → (needed b p x ≡ true) ⊎ ((cell (b .types) i ≡ cell (b .types) x) × (i ≤ x)) → needed b more x ≡ true
-  unfolding needed
+  unfolding neededIn
   says-put x (inl h) =
       let w = anyTo-some (wants b p x) (b .n) h in
       let v = wants-says b p x (w .number) (w .holds) in

@@ -23,7 +23,7 @@ use Rattle.rules.specs.Rules.{placed, joins, linkOk, precedenceOk, apart, share
 use Rattle.rules.proofs.ChainRule.{chain-rule}
 use Rattle.placing.specs.declared.Board.{Board}
 use Rattle.placing.specs.Board.{unit, boardOf, OfJob}
-use Rattle.placing.specs.Placing.{Placing, rowOk, live, wants, needed, cost, Part}
+use Rattle.placing.specs.Placing.{Placing, rowOk, live, wants, needed, cost, Part, neededIn}
 use Rattle.placing.specs.Options.{Option, none, put}
 use Rattle.placing.proofs.CostLaws.{board-sound, cost-rises, wants-says, says-wants, fails, none-unplaced}
 
@@ -154,7 +154,7 @@ module _ (p q : Placing) (part : Part p q) where
   -- ---- what is needed
 
   part-needed : (b : Board) (i : ℕ) → needed b p i ≡ true → needed b q i ≡ true
-  unfolding needed
+  unfolding neededIn
   part-needed b i h =
       let w = anyTo-some (wants b p i) (b .n) h in
       let v = wants-says b p i (w .number) (w .holds) in

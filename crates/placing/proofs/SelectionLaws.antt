@@ -17,7 +17,7 @@ use Rattle.rules.specs.Rules.{placed}
 use Rattle.rules.specs.Selection.{selected, selectionCost}
 use Rattle.placing.specs.declared.Board.{Board}
 use Rattle.placing.specs.Board.{OfJob}
-use Rattle.placing.specs.Placing.{Placing, wants, needed, cost, neededAt, smallest}
+use Rattle.placing.specs.Placing.{Placing, wants, needed, cost, neededAt, smallest, neededIn, smallestIn}
 use Rattle.placing.proofs.CostLaws.{few-insts, cost-cong, cost-rises, wants-says, says-wants}
 
 -- ---- a cell of it
@@ -28,8 +28,8 @@ only-one true h = refl
 only-one false h = absurd (omega arith)
 
 pub smallest-cell : (b : Board) → OfJob b → (p : Placing) (i : ℕ) → i < b .k → cell (smallest b p) i ≡ only (needed b p i) 1
-unfolding smallest
-smallest-cell b j p i l = cell-cells (neededAt b p) (b .k) instCells i l (few-insts b j)
+unfolding smallestIn
+smallest-cell b j p i l = cell-cells (neededAt (b .n) (b .types) (p .starts) (p .insts)) (b .k) instCells i l (few-insts b j)
 
 smallest-needed : (b : Board) → OfJob b → (p : Placing) (i : ℕ) → i < b .k → cell (smallest b p) i ≡ 1 → needed b p i ≡ true
 smallest-needed b j p i l h = only-one (needed b p i) (sym (smallest-cell b j p i l) ∙ h)
@@ -52,13 +52,13 @@ Ordered b sel = (i l : ℕ) → i < l → l < b .k → cell (b .types) i ≡ cel
 
 pub smallest-holds : (b : Board) → OfJob b → (p : Placing) → ((o : ℕ) → o < b .n → placed (p .starts) o ≡ true → cell (p .insts) o < b .k)
     → Holds b p (smallest b p)
-unfolding needed
+unfolding neededIn
 smallest-holds b j p below o l h =
     let i : ℕ = cell (p .insts) o in
     needed-smallest b j p i (below o l h) (some-anyTo (wants b p i) (b .n) o l (says-wants b p i o h refl (omega arith)))
 
 pub smallest-ordered : (b : Board) → OfJob b → (p : Placing) → Ordered b (smallest b p)
-unfolding needed
+unfolding neededIn
 smallest-ordered b j p i l il lk e h =
     let w = anyTo-some (wants b p i) (b .n) (smallest-needed b j p i (omega arith) h) in
     let v = wants-says b p i (w .number) (w .holds) in
@@ -67,7 +67,7 @@ smallest-ordered b j p i l il lk e h =
 -- ---- and any that does holds it
 
 needed-held : (b : Board) (p : Placing) (sel : List ℕ) → Holds b p sel → Ordered b sel → (i : ℕ) → i < b .k → needed b p i ≡ true → cell sel i ≡ 1
-unfolding needed
+unfolding neededIn
 needed-held b p sel holds ordered i l h =
     let w = anyTo-some (wants b p i) (b .n) h in
     let o = w .number in

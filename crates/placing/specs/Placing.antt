@@ -40,24 +40,33 @@ live b p =
 -- ---- cost
 
 -- operation o wants instance i selected: it is placed on i, or on one before i of the same type
-unfoldable pub wants : Board → Placing → ℕ → ℕ → Bool
-wants b p i o =
-    let inst = cell (p .insts) o in
-    placed (p .starts) o && eqb (cell (b .types) inst) (cell (b .types) i) && leb inst i
+unfoldable pub wantsIn : List ℕ → List ℕ → List ℕ → ℕ → ℕ → Bool
+wantsIn types starts insts i o =
+    let inst = cell insts o in
+    placed starts o && eqb (cell types inst) (cell types i) && leb inst i
 
--- some operation does
-unfoldable pub needed : Board → Placing → ℕ → Bool
-needed b p i = anyTo (wants b p i) (b .n)
+abbrev pub wants : Board → Placing → ℕ → ℕ → Bool
+wants b p i o = wantsIn (b .types) (p .starts) (p .insts) i o
+
+-- some of n operations does
+unfoldable pub neededIn : ℕ → List ℕ → List ℕ → List ℕ → ℕ → Bool
+neededIn n types starts insts i = anyTo (wantsIn types starts insts i) n
+
+abbrev pub needed : Board → Placing → ℕ → Bool
+needed b p i = neededIn (b .n) (b .types) (p .starts) (p .insts) i
 
 unfoldable pub cost : Board → Placing → ℕ
 cost b p = selectionCost (b .costs) (b .types) (needed b p) (b .k)
 
--- the smallest selection, as a plan has it
-abbrev pub neededAt : Board → Placing → ℕ → ℕ
-neededAt b p i = only (needed b p i) 1
+-- the smallest selection, of k instances, as a plan has it
+abbrev pub neededAt : ℕ → List ℕ → List ℕ → List ℕ → ℕ → ℕ
+neededAt n types starts insts i = only (neededIn n types starts insts i) 1
 
-unfoldable pub smallest : Board → Placing → List ℕ
-smallest b p = cells (neededAt b p) (b .k) instCells
+unfoldable pub smallestIn : ℕ → ℕ → List ℕ → List ℕ → List ℕ → List ℕ
+smallestIn n k types starts insts = cells (neededAt n types starts insts) k instCells
+
+abbrev pub smallest : Board → Placing → List ℕ
+smallest b p = smallestIn (b .n) (b .k) (b .types) (p .starts) (p .insts)
 
 -- ---- parts
 

@@ -1,3 +1,5 @@
 pub mod LeafMeets
 pub mod SearchMeets
 pub mod SearchSays
+pub mod WalkLaws
+pub mod SearchSteps

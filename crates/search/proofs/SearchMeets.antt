@@ -24,7 +24,7 @@ use Rattle.sheets.proofs.JobRoundTrip.{job-sound}
 use Rattle.rules.specs.Meets.{Meets}
 use Rattle.placing.specs.Board.{boardOf}
 use Rattle.placing.specs.Bound.{All, First}
-use Rattle.placing.specs.Placing.{Placing, cost, needed, neededAt, smallest}
+use Rattle.placing.specs.Placing.{Placing, cost, needed, neededAt, smallest, smallestIn}
 use Rattle.placing.specs.Options.{none, children}
 use Rattle.placing.proofs.BoundLaws.{walk-finds, nothing-held, some-first, first-least}
 use Rattle.placing.proofs.CostLaws.{few-ops, few-insts}
@@ -137,10 +137,10 @@ module _ (sheet : List ℕ) (j : Job) (read : readJob sheet ≡ record { answer 
         }
 
     pub found-shape : PlanShape found
-    unfolding smallest
+    unfolding smallestIn
     found-shape =
         record {
-          selection = length-cells (neededAt (boardOf j) leaf) (boardOf j .k) instCells;
+          selection = length-cells (neededAt (boardOf j .n) (boardOf j .types) (leaf .starts) (leaf .insts)) (boardOf j .k) instCells;
           starts = found-placed .starts-long;
           insts = found-placed .insts-long;
         }
@@ -150,7 +150,7 @@ module _ (sheet : List ℕ) (j : Job) (read : readJob sheet ≡ record { answer 
     few-steps = job-sound sheet j read .steps
 
     pub found-sound : planRecordFault found ≡ 0
-    unfolding planRecordFault planCountsFault planFits smallest
+    unfolding planRecordFault planCountsFault planFits smallestIn
     found-sound =
         let w = found-placed in
         let b = boardOf j in
@@ -162,5 +162,5 @@ module _ (sheet : List ℕ) (j : Job) (read : readJob sheet ≡ record { answer 
         let insts = each-within (leaf .insts) maxInst (b .n) (λ o l. omega (arith, w .rows o l .2, k)) in
         none-orElse _ _ (none-unless _ outsideLimit (both-and _ _ (le-leb (b .n) maxOps n) (le-leb (b .k) maxInsts k)))
         (none-unless _ recordBroken
-        (both-and _ _ (both-and _ _ (both-and _ _ (both-and _ _ (both-and _ _ marks starts) insts) (blank-cells (neededAt b leaf) (b .k) instCells))
+        (both-and _ _ (both-and _ _ (both-and _ _ (both-and _ _ (both-and _ _ marks starts) insts) (blank-cells (neededAt (b .n) (b .types) (leaf .starts) (leaf .insts)) (b .k) instCells))
         (each-blank (leaf .starts) (b .n) (λ o l. w .unused o l .0))) (each-blank (leaf .insts) (b .n) (λ o l. w .unused o l .1))))

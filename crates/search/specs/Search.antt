@@ -1,6 +1,7 @@
 -- What the search answers for any bytes and any budget, and the output's bytes after it: `search` and `searchOut`;
 -- `searchedSays` gives each case in numbers. `walked` is the walk of document 01, from nothing placed and nothing held.
 use Prim.Native.Nat.{ℕ}
+use mathlib.Core.Path.{_≡_}
 use mathlib.Core.Bool.{Bool, true, false, _&&_}
 use mathlib.Core.List.{List}
 use lib.Dec.{leb}
@@ -43,14 +44,14 @@ planFrom b p = record { n = b .n; k = b .k; selection = smallest b p; starts = p
 
 -- ---- the answer of a walk that ended at e, within the budget or not, where writing the best's plan gave w
 
-unfoldable pub wrote : State Placing → Written → Searched
-wrote e (Wrote length) = Found (e .best .cost) (e .visits) length
-wrote e (Unwritten number paper) = Refused number paper
+unfoldable pub wrote : ℕ → ℕ → Written → Searched
+wrote cost visits (Wrote length) = Found cost visits length
+wrote cost visits (Unwritten number paper) = Refused number paper
 
 unfoldable pub answered : Bool → Bool → ℕ → State Placing → Written → Searched
 answered false held budget e w = Spent budget
 answered true false budget e w = Nothing (e .visits)
-answered true true budget e w = wrote e w
+answered true true budget e w = wrote (e .best .cost) (e .visits) w
 
 abbrev pub within : ℕ → State Placing → Bool
 within budget e = leb (e .visits) budget
@@ -72,6 +73,11 @@ searchJobOut j budget before =
     let b = boardOf j in
     let e = walked b in
     outIf (within budget e && e .best .held) (planOut (planFrom b (e .best .node)) before) before
+
+-- a job that a sheet was read as
+pub record WasRead (j : Job) : Type 0 where
+  pub sheet : List ℕ
+  pub read : readJob sheet ≡ record { answer = Read; job = j }
 
 -- ---- the search: a job that cannot be read ends the question there (`Unread` is the readers' `Refused`)
 

@@ -2,6 +2,19 @@
 pub mod walking; // the walk
 pub mod searching; // the search: search, searched_says
 
+// How far a walk has come: arrivals so far, and whether a best is held and at what cost.
+pub struct Progress {
+    pub visits: u32,
+    pub held: bool,
+    pub cost: u32,
+}
+
+// Where a walk ends: its budget spent, or done.
+pub enum Walked {
+    Spent,
+    Done(Progress),
+}
+
 // The search's answer.
 pub enum Searched {
     Found { cost: u32, visits: u32, length: u32 },

@@ -7,8 +7,10 @@ ghost use Rattle.tolmupung.specs.Promises.{jobSays, planSays};
 ghost use Rattle.basics.specs.Answers.{Promise};
 ghost use Rattle.sheets.specs.Answers.{writtenSays};
 ghost use Rattle.rules.specs.Judge.{judge, judgedSays};
+ghost use Rattle.search.specs.Search.{search as searchOf, searchOut, searchedSays};
 use basics::Answer;
 use rules::judging::judged_says;
+use search::searching::searched_says;
 use sheets::Job;
 use sheets::Plan;
 use sheets::answers::reading_says;
@@ -71,4 +73,11 @@ pub extern "C" fn tolmupung_judge(job: &[u8], plan: &[u8]) -> Answer
     ensures { λ r. ⌜ r ≡ judgedSays (judge (now (job .entry)) (now (plan .entry))) ⌝ }
 {
     judged_says(rules::judging::judge(job, plan))
+}
+
+#[no_mangle]
+pub extern "C" fn tolmupung_search(job: &[u8], budget: u32, out: &mut [u8]) -> Answer
+    ensures { λ r. ⌜ Promise (searchedSays (searchOf (now (job .entry)) budget (length (now (out .entry))))) (searchOut (now (job .entry)) budget (now (out .entry))) r (now (out .exit)) ⌝ }
+{
+    searched_says(search::searching::search(job, budget, out))
 }

@@ -1,0 +1,142 @@
+-- What the proof of the search needs: how it begins, and the promise at each of its ends.
+use Prim.Native.Nat.{ℕ, _-_, _≤_, _<_}
+use mathlib.Core.Path.{_≡_, refl, sym, ap, _∙_}
+use mathlib.Core.Bool.{true, false}
+use mathlib.Core.List.{List}
+use native.Mathlib.Omega.{arith}
+use borrow.Author.Tests.{le-leb, lt-leb}
+use lib.ListN.{length, replicate}
+use Rattle.basics.specs.Answers.{Promise}
+use Rattle.basics.proofs.TableLaws.{cell-replicate}
+use Rattle.sheets.specs.JobSheet.{readJob}
+use Rattle.sheets.specs.Limits.{opCells, instCells, typeCells, maxSteps}
+use Rattle.sheets.specs.PlanSheet.{writePlan, planOut}
+use Rattle.sheets.specs.declared.Job.{Job}
+use Rattle.sheets.specs.declared.Plan.{Plan}
+use Rattle.sheets.specs.declared.JobRead.{JobRead}
+use Rattle.sheets.specs.declared.Reading.the-variants.{Read, Refused as Unread}
+use Rattle.sheets.specs.declared.Written.{Written}
+use Rattle.sheets.proofs.JobRoundTrip.{job-sound}
+use Rattle.rules.specs.Model.{instCount}
+use Rattle.placing.specs.Bound.{State}
+use Rattle.placing.specs.Board.{OfJob, boardOf}
+use Rattle.placing.specs.Options.{none}
+use Rattle.placing.specs.Placing.{Placing, smallest, smallestIn}
+use Rattle.placing.specs.declared.Board.{Board}
+use Rattle.placing.proofs.CostLaws.{tracks-none}
+use Rattle.placing.proofs.PartLaws.{none-live}
+use Rattle.search.specs.Search.{walkFrom, begin, walked, planFrom, wrote, answered, within, searchJob, outIf, searchJobOut, WasRead, ifRead, search, outIfRead, searchOut}
+use Rattle.search.specs.Walking.{placing, Walkable, Walks}
+use Rattle.search.specs.declared.Progress.{Progress}
+use Rattle.search.specs.declared.Walked.{Walked}
+use Rattle.search.specs.declared.Walked.the-variants.{Spent as Over, Done}
+use Rattle.search.proofs.SearchMeets.{found-shape}
+use Rattle.search.proofs.WalkLaws.{progressOf, spent-from, done-from}
+use Rattle.search.specs.declared.Searched.{Searched}
+use Rattle.search.specs.declared.Searched.the-variants.{Nothing, Spent, Refused}
+
+-- ---- how it begins
+
+pub read-limits : (j : Job) → WasRead j → (j .n ≤ opCells) × (instCount j ≤ instCells) × (j .t ≤ maxSteps)
+read-limits j r = let s = job-sound (r .sheet) j (r .read) in (s .counts .ops, s .insts, s .steps)
+
+pub board-read : {b : Board} (j : Job) → WasRead j → b ≡ boardOf j → OfJob b
+board-read j r e = record { sheet = r .sheet; job = j; read = r .read; is = e }
+
+pub few-units : {b : Board} (j : Job) → b ≡ boardOf j → WasRead j → b .k ≤ instCells
+unfolding boardOf
+few-units j of r = rw of (read-limits j r .1)
+
+pub begins : (b : Board) → OfJob b → Walkable b 0 none (replicate typeCells instCells) 0
+begins b of =
+    record {
+      of = of;
+      few = omega arith;
+      alive = none-live b of;
+      behind = λ o l. cell-replicate opCells o;
+      tracks = tracks-none b of;
+      starts-long = refl;
+      insts-long = refl;
+      lows-long = refl;
+    }
+
+pub whole-walk : {b : Board} (j : Job) → b ≡ boardOf j → walkFrom b (b .n - 0) none begin ≡ walked (boardOf j)
+unfolding walked
+whole-walk {b} j e =
+    let z : b .n - 0 ≡ b .n = omega arith in
+    ap (λ (d : ℕ). walkFrom b d none begin) z ∙ ap (λ (x : Board). walkFrom x (x .n) none begin) e
+
+-- ---- what the walk leaves
+
+module _ {b : Board} (j : Job) (of : b ≡ boardOf j) {budget : ℕ} {r : Walked} {p' best' : Placing} {lows lows' : List ℕ}
+    (w : Walks budget (walkFrom b (b .n - 0) none begin) r none p' best' lows lows') where
+  pub walk-spent : r ≡ Over → budget < walked (boardOf j) .visits
+  walk-spent q = rw (← whole-walk j of) (spent-from w q)
+
+  pub walk-done : {x : Progress} → r ≡ Done x → (walked (boardOf j) .visits ≤ budget) × (x ≡ progressOf (walked (boardOf j))) × (best' ≡ walked (boardOf j) .best .node)
+  walk-done q = let d = done-from w q in rw (← whole-walk j of) (d .0, d .1, w .keeps (d .0) .2)
+
+module _ {b : Board} (j : Job) (of : b ≡ boardOf j) {starts insts : List ℕ} (best : placing starts insts ≡ walked (boardOf j) .best .node) where
+  pub plan-is : {selection : List ℕ} → selection ≡ smallestIn (b .n) (b .k) (b .types) starts insts
+      → record { n = b .n; k = b .k; selection = selection; starts = starts; insts = insts } ≡ planFrom (boardOf j) (walked (boardOf j) .best .node)
+  plan-is e =
+      let s = e ∙ (λ i. smallest (of i) (best i)) in
+      λ i. record { n = of i .n; k = of i .k; selection = s i; starts = best i .starts; insts = best i .insts }
+
+  pub best-long : WasRead j → walked (boardOf j) .best .held ≡ true → (length starts ≡ opCells) × (length insts ≡ opCells)
+  best-long r h =
+      let w = found-shape (r .sheet) j (r .read) h in
+      (ap (λ (p : Placing). length (p .starts)) best ∙ w .starts, ap (λ (p : Placing). length (p .insts)) best ∙ w .insts)
+
+-- ---- its ends, of a job
+
+module _ (j : Job) (budget : ℕ) (before : List ℕ) where
+  abbrev end : State Placing
+  end = walked (boardOf j)
+
+  abbrev found : Plan
+  found = planFrom (boardOf j) (end .best .node)
+
+  abbrev Answers : Searched → List ℕ → Type 0
+  Answers r after = Promise (searchJob j budget (length before)) (searchJobOut j budget before) r after
+
+  pub ends-spent : budget < end .visits → Answers (Spent budget) before
+  unfolding searchJob searchJobOut answered outIf
+  ends-spent l = let z : within budget end ≡ false = lt-leb (end .visits) budget l in record { told = rw z; bytes = rw z }
+
+  module _ (kept : end .visits ≤ budget) where
+    pub ends-none : {visits : ℕ} → end .best .held ≡ false → visits ≡ end .visits → Answers (Nothing visits) before
+    unfolding searchJob searchJobOut answered outIf
+    ends-none h e =
+        let z : within budget end ≡ true = le-leb (end .visits) budget kept in
+        record { told = rw (z, h) (ap (λ (v : ℕ). Nothing v) e); bytes = rw (z, h) }
+
+    pub ends-found : {cost visits : ℕ} {plan : Plan} {w : Written} {r : Searched} {after : List ℕ} → end .best .held ≡ true → cost ≡ end .best .cost → visits ≡ end .visits → plan ≡ found
+        → Promise (writePlan plan (length before)) (planOut plan before) w after → r ≡ wrote cost visits w → Answers r after
+    unfolding searchJob searchJobOut answered outIf
+    ends-found {cost} {visits} {plan} {w} h c v p q e =
+        let z : within budget end ≡ true = le-leb (end .visits) budget kept in
+        record {
+          told = rw (z, h) (e ∙ rw (c, v, q .told, p));
+          bytes = rw (z, h) (q .bytes ∙ rw p);
+        }
+
+-- ---- its ends, on bytes: x is what the reader gave
+
+module _ (job : List ℕ) (budget : ℕ) (before : List ℕ) {x : JobRead} (read : x ≡ readJob job) where
+  abbrev AnswersBytes : Searched → List ℕ → Type 0
+  AnswersBytes r after = Promise (search job budget (length before)) (searchOut job budget before) r after
+
+  pub ends-unread : {number paper : ℕ} {r : Searched} → x .answer ≡ Unread number paper → r ≡ ifRead (x .answer) (Refused 0 0) → AnswersBytes r before
+  unfolding search searchOut ifRead outIfRead
+  ends-unread q p = let e : readJob job .answer ≡ _ = sym (ap (λ (y : JobRead). y .answer) read) ∙ q in record { told = p ∙ rw (q, e); bytes = rw e }
+
+  pub ends-read : {r : Searched} {after : List ℕ} → x .answer ≡ Read
+      → Promise (searchJob (x .job) budget (length before)) (searchJobOut (x .job) budget before) r after → AnswersBytes r after
+  unfolding search searchOut ifRead outIfRead
+  ends-read q w =
+      let e : readJob job .answer ≡ Read = sym (ap (λ (y : JobRead). y .answer) read) ∙ q in
+      record { told = rw (e, ← read) (w .told); bytes = rw (e, ← read) (w .bytes) }
+
+pub was-read : (job : List ℕ) {x : JobRead} → x ≡ readJob job → x .answer ≡ Read → WasRead (x .job)
+was-read job {x} read e = record { sheet = job; read = sym read ∙ (λ i. record { answer = e i; job = x .job }) }
