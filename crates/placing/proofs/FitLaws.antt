@@ -13,7 +13,7 @@ use lib.ListN.{length, set, length-set}
 use lib.Seq.{getD-set-same, getD-set-other, ext-getD}
 use Rattle.basics.specs.Counting.{allTo, only}
 use Rattle.basics.specs.Tables.{cell}
-use Rattle.basics.proofs.CountLaws.{and-both, both-and, asked, where-asked, same-test, allTo-each, each-allTo, some-anyTo}
+use Rattle.basics.proofs.CountLaws.{and-both, both-and, asked, where-asked, same-test, allTo-each, each-allTo, some-anyTo, anyTo-none, either, either-left, either-right}
 use Rattle.basics.proofs.TableLaws.{length-cells, cell-cells, cell-unused}
 use Rattle.sheets.specs.Limits.{opCells}
 use Rattle.rules.specs.Model.{rowAt, rowTable}
@@ -469,35 +469,45 @@ module _ (b : Board) (of : OfJob b) (p : Placing) (ls : length (p .starts) ≡ o
         go true e = sym chains-are ∙ asked chain _ e k
         go false e = chains-still (unchained e) h
 
-    abbrev test : Bool
-    test =
-        fits (b .from) (b .to) (b .e) (b .wire) (b .clock) (b .times) (b .delays) (b .spacings) (b .lasts) (b .near) (p .starts) (p .insts) reach op s i
+    module _ (settled : Bool) (sure : settled ≡ true → (links ≡ true) × (chain ≡ false)) where
+      abbrev test : Bool
+      test =
+          fits (b .from) (b .to) (b .e) (b .wire) (b .clock) (b .times) (b .delays) (b .spacings) (b .lasts) (b .near) (p .starts) (p .insts) settled reach op s i
 
-    live-test : i < b .k → live b p ≡ true → test ≡ live b next
-    unfolding fits
-    live-test lk h = same-test test (live b next) onward back
-      where
-        last : Bool
-        last = leb s (unit (b .lasts) op i)
+      link-part : settled || (links && (not chain || fitted)) ≡ true → (links ≡ true) × (not chain || fitted ≡ true)
+      link-part h =
+          ⊎-elim (λ e. let w = sure e in (w .0, rw (w .1))) (λ e. and-both links (not chain || fitted) e) (either settled (links && (not chain || fitted)) h)
 
-        onward : test ≡ true → live b next ≡ true
-        onward t =
-            let w = live-parts b p h in
-            let v = and-four last links shares (not chain || fitted) t in
-            parts-live b next (sym (rows-last lk (w .0)) ∙ v .0) (turns-precede (w .1) (links-turn (v .1)))
-            (shares-resource (w .2) (λ o l d. shares-each (v .2) o)) (chain-chains (w .3) (v .3))
+      live-test : i < b .k → live b p ≡ true → test ≡ live b next
+      unfolding fits
+      live-test lk h = same-test test (live b next) onward back
+        where
+          last : Bool
+          last = leb s (unit (b .lasts) op i)
 
-        back : live b next ≡ true → test ≡ true
-        back t =
-            let v = live-parts b next t in
-            let r = rows-last lk (live-parts b p h .0) ∙ v .0 in
-            four-and last links shares (not chain || fitted) r (turns-link (v .1) (v .3)) (each-shares (v .2)) (where-asked chain fitted (λ e. chains-are ∙ v .3))
+          onward : test ≡ true → live b next ≡ true
+          onward t =
+              let w = live-parts b p h in
+              let v = and-both (last && shares) (settled || (links && (not chain || fitted))) t in
+              let u = and-both last shares (v .0) in
+              let x = link-part (v .1) in
+              parts-live b next (sym (rows-last lk (w .0)) ∙ u .0) (turns-precede (w .1) (links-turn (x .0)))
+              (shares-resource (w .2) (λ o l d. shares-each (u .1) o)) (chain-chains (w .3) (x .1))
+
+          back : live b next ≡ true → test ≡ true
+          back t =
+              let v = live-parts b next t in
+              let r = rows-last lk (live-parts b p h .0) ∙ v .0 in
+              both-and _ _ (both-and _ _ r (each-shares (v .2)))
+              (either-right settled _ (both-and _ _ (turns-link (v .1) (v .3)) (where-asked chain fitted (λ e. chains-are ∙ v .3))))
 
 pub fits-live : (b : Board) → OfJob b → (p : Placing) → length (p .starts) ≡ opCells → length (p .insts) ≡ opCells → live b p ≡ true
-    → (reach op s i : ℕ) → ((o : ℕ) → reach ≤ o → cell (p .starts) o ≡ 0) → reach ≤ b .n → op < b .n → i < b .k → 1 ≤ s → cell (p .starts) op ≡ 0
-    → fits (b .from) (b .to) (b .e) (b .wire) (b .clock) (b .times) (b .delays) (b .spacings) (b .lasts) (b .near) (p .starts) (p .insts) reach op s i
+    → (settled : Bool) (reach op s i : ℕ)
+    → (settled ≡ true → (linksFit (b .times) (b .delays) (b .near) (p .starts) (p .insts) (b .wire) (b .clock) reach op s (unit (b .times) op i) (unit (b .delays) op i) ≡ true) × (chained (b .near) (p .starts) reach op s ≡ false))
+    → ((o : ℕ) → reach ≤ o → cell (p .starts) o ≡ 0) → reach ≤ b .n → op < b .n → i < b .k → 1 ≤ s → cell (p .starts) op ≡ 0
+    → fits (b .from) (b .to) (b .e) (b .wire) (b .clock) (b .times) (b .delays) (b .spacings) (b .lasts) (b .near) (p .starts) (p .insts) settled reach op s i
     ≡ live b (put p op (record { start = s; inst = i }))
-fits-live b of p ls li h reach op s i empty short lo lk begun free = live-test b of p ls li op s i lo begun reach empty short free lk h
+fits-live b of p ls li h settled reach op s i sure empty short lo lk begun free = live-test b of p ls li op s i lo begun reach empty short free settled sure lk h
 
 -- ---- before the first start
 
@@ -508,7 +518,7 @@ module _ (b : Board) (p : Placing) (op s : ℕ) (begun : 1 ≤ s) where
     below : number < m
     links : linked (b .near) op number ≡ true
     stands : placed (p .starts) number ≡ true
-    late : s < finish (cell (p .starts) number) (unit (b .delays) number (cell (p .insts) number))
+    late : s < max (cell (p .starts) number) (finish (cell (p .starts) number) (unit (b .delays) number (cell (p .insts) number)))
 
   early-ends : (m : ℕ) → s < firstStart (b .delays) (b .near) (p .starts) (p .insts) op m → Ends m
   unfolding firstStart endOf only
@@ -525,7 +535,7 @@ module _ (b : Board) (p : Placing) (op s : ℕ) (begun : 1 ≤ s) where
       go (yes l) w = let v = w l in record { number = v .number; below = omega (arith, v .below); links = v .links; stands = v .stands; late = v .late }
       go (no l) w =
           let v = only-above (linked (b .near) op m) end s (let q : s < max before (only (linked (b .near) op m) end) = h in omega arith) in
-          let u = only-above (placed (p .starts) m) (finish (cell (p .starts) m) (unit (b .delays) m (cell (p .insts) m))) s (v .1) in
+          let u = only-above (placed (p .starts) m) (max (cell (p .starts) m) (finish (cell (p .starts) m) (unit (b .delays) m (cell (p .insts) m)))) s (v .1) in
           record { number = m; below = omega arith; links = v .0; stands = u .0; late = u .1 }
 
 pub early-dead : (b : Board) → OfJob b → (p : Placing) → length (p .starts) ≡ opCells → length (p .insts) ≡ opCells
@@ -549,3 +559,51 @@ early-dead b of p ls li op s i lo lk begun h = go (live b (put p op (record { st
         let u = asked (placed (p .starts) o) (inTurnIf (ltb o op) (cell (p .starts) o) delay s (unit (b .delays) op i)) (w .stands) v in
         let x : precedes (cell (p .starts) o) delay s (unit (b .delays) op i) ≡ true = rw (lt-ltb o op (w .below)) at u in
         absurd (⊎-elim (λ y. omega (arith, w .late)) (λ y. omega (arith, w .late)) (precedes-says _ _ _ _ x))
+
+-- ---- behind the first start links are settled
+
+module _ (delays near starts insts : List ℕ) (op : ℕ) where
+  ends-below : (m o : ℕ) → o < m → linked near op o ≡ true → endOf delays starts insts o ≤ firstStart delays near starts insts op m
+  unfolding firstStart only
+  ends-below zero o l h = absurd (omega arith)
+  ends-below (suc m) o l h =
+      elim (ℕ-discrete o m) [
+        | yes e ↦
+            let k : linked near op m ≡ true = rw e at h in
+            rw (e, k) (omega arith)
+        | no d ↦ omega (arith, ends-below m o (omega arith) h)
+      ]
+
+  -- a linked one that is placed has started and ended before
+  ended : (s o : ℕ) → firstStart delays near starts insts op op < s → o < op → linked near op o ≡ true → placed starts o ≡ true
+      → (cell starts o < s) × (finish (cell starts o) (unit delays o (cell insts o)) < s)
+  unfolding endOf only
+  ended s o f l h k =
+      let e : max (cell starts o) (finish (cell starts o) (unit delays o (cell insts o))) ≤ firstStart delays near starts insts op op = rw k at (ends-below op o l h) in
+      (omega arith, omega arith)
+
+  pub settled-links : (times : List ℕ) (wire clock s time delay : ℕ) → firstStart delays near starts insts op op < s
+      → (linksFit times delays near starts insts wire clock op op s time delay ≡ true) × (chained near starts op op s ≡ false)
+  unfolding linksFit linkFits inTurn inTurnIf pairOk precedes chained chainedAt
+  settled-links times wire clock s time delay f = (each-allTo _ op fit, anyTo-none _ op out)
+    where
+      not-here : (o : ℕ) → o < op → linked near op o ≡ true → eqb (cell starts o) s ≡ false
+      not-here o l h =
+          elim (decLt 0 (cell starts o)) [
+            | yes k ↦ ne-eqb (cell starts o) s (omega (arith, ended s o f l h (lt-ltb 0 (cell starts o) k) .0))
+            | no k ↦ ne-eqb (cell starts o) s (omega arith)
+          ]
+
+      fit : (o : ℕ) → o < op → linkFits times delays near starts insts wire clock op s time delay o ≡ true
+      fit o l =
+          where-asked (linked near op o) _ (λ h.
+          both-and _ _
+          (where-asked (placed starts o) _ (λ k. rw (lt-ltb o op l) (either-left _ _ (lt-ltb _ s (ended s o f l h k .1)))))
+          (rw (not-here o l h)))
+
+      out : (o : ℕ) → o < op → chainedAt near starts op s o ≡ false
+      out o l = go (linked near op o) refl
+        where
+          go : (t : Bool) → linked near op o ≡ t → t && eqb (cell starts o) s ≡ false
+          go true h = not-here o l h
+          go false h = refl

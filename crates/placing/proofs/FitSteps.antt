@@ -76,7 +76,7 @@ module _ (delays starts insts : List ℕ) (o : ℕ) where
   unfolding endOf only
   end-out e z = rw (← e, z)
 
-  pub end-in : {start : ℕ} {r : ℕ} → start ≡ cell starts o → (start ≡ 0 → ⊥) → r ≡ finish start (unit delays o (cell insts o)) → r ≡ endOf delays starts insts o
+  pub end-in : {start : ℕ} {r : ℕ} → start ≡ cell starts o → (start ≡ 0 → ⊥) → r ≡ max start (finish start (unit delays o (cell insts o))) → r ≡ endOf delays starts insts o
   unfolding endOf only
   end-in {start} e z p = rw (← e, lt-ltb 0 start (omega (arith, z))) p
 
@@ -215,31 +215,36 @@ module _ (near : List ℕ) (op : ℕ) (leads : Leads near op) where
 
 -- ---- the whole test, where it is decided
 
-module _ (from to : List ℕ) (e wire clock : ℕ) (times delays spacings lasts near starts insts : List ℕ) (reach op s i : ℕ) where
+module _ (from to : List ℕ) (e wire clock : ℕ) (times delays spacings lasts near starts insts : List ℕ) (settled : Bool) (reach op s i : ℕ) where
   abbrev fit-whole : Bool
-  fit-whole = fits from to e wire clock times delays spacings lasts near starts insts reach op s i
+  fit-whole = fits from to e wire clock times delays spacings lasts near starts insts settled reach op s i
 
   module _ {last : ℕ} (l : last ≡ unit lasts op i) where
     pub no-row : last < s → false ≡ fit-whole
     unfolding fits
     no-row q = rw (← l, lt-leb s last q)
 
-    module _ (row : s ≤ last) {time delay : ℕ} (t : time ≡ unit times op i) (d : delay ≡ unit delays op i) {links : Bool}
-        (k : links ≡ linksFit times delays near starts insts wire clock reach op s time delay) where
-      pub no-links : links ≡ false → false ≡ fit-whole
+    module _ (row : s ≤ last) {spacing : ℕ} (p : spacing ≡ unit spacings op i) {shares : Bool} (q : shares ≡ sharesFit spacings starts insts reach s i spacing) where
+      pub no-shares : shares ≡ false → false ≡ fit-whole
       unfolding fits
-      no-links h = rw (← t, ← d, ← k, h, ← l, le-leb s last row)
+      no-shares h = rw (← p, ← q, h, ← l, le-leb s last row)
 
-      module _ (on : links ≡ true) {spacing : ℕ} (p : spacing ≡ unit spacings op i) {shares : Bool} (q : shares ≡ sharesFit spacings starts insts reach s i spacing) where
-        pub no-shares : shares ≡ false → false ≡ fit-whole
+      module _ (on : shares ≡ true) where
+        pub no-asking : settled ≡ true → true ≡ fit-whole
         unfolding fits
-        no-shares h = rw (← t, ← d, ← k, on, ← p, ← q, h, ← l, le-leb s last row)
+        no-asking h = rw (← p, ← q, on, ← l, le-leb s last row, h)
 
-        module _ (apart : shares ≡ true) {joined : Bool} (j : joined ≡ chained near starts reach op s) where
-          pub no-chain : joined ≡ false → true ≡ fit-whole
+        module _ (off : settled ≡ false) {time delay : ℕ} (t : time ≡ unit times op i) (d : delay ≡ unit delays op i) {links : Bool}
+            (k : links ≡ linksFit times delays near starts insts wire clock reach op s time delay) where
+          pub no-links : links ≡ false → false ≡ fit-whole
           unfolding fits
-          no-chain h = rw (← t, ← d, ← k, on, ← p, ← q, apart, ← j, h, ← l, le-leb s last row)
+          no-links h = rw (← p, ← q, on, ← l, le-leb s last row, off, ← t, ← d, ← k, h)
 
-          pub by-chain : joined ≡ true → {r : Bool} → r ≡ chainsFit from to e wire clock times starts insts op s time → r ≡ fit-whole
-          unfolding fits
-          by-chain h g = rw (← t, ← d, ← k, on, ← p, ← q, apart, ← j, h, ← l, le-leb s last row) g
+          module _ (in-turn : links ≡ true) {joined : Bool} (j : joined ≡ chained near starts reach op s) where
+            pub no-chain : joined ≡ false → true ≡ fit-whole
+            unfolding fits
+            no-chain h = rw (← p, ← q, on, ← l, le-leb s last row, off, ← t, ← d, ← k, in-turn, ← j, h)
+
+            pub by-chain : joined ≡ true → {r : Bool} → r ≡ chainsFit from to e wire clock times starts insts op s time → r ≡ fit-whole
+            unfolding fits
+            by-chain h g = rw (← p, ← q, on, ← l, le-leb s last row, off, ← t, ← d, ← k, in-turn, ← j, h) g

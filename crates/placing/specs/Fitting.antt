@@ -60,20 +60,21 @@ unfoldable pub chainsFit : List ℕ → List ℕ → ℕ → ℕ → ℕ → Lis
 chainsFit from to e wire clock times starts insts op s time =
     chainsOk from to e wire clock (set starts op s) (set (rowTable (unit times) insts) op time)
 
--- ---- the whole
+-- ---- the whole: links are not asked where they are settled, because all those linked to op end before step s (`settled-links`)
 
-unfoldable pub fits : List ℕ → List ℕ → ℕ → ℕ → ℕ → List ℕ → List ℕ → List ℕ → List ℕ → List ℕ → List ℕ → List ℕ → ℕ → ℕ → ℕ → ℕ → Bool
-fits from to e wire clock times delays spacings lasts near starts insts reach op s i =
+unfoldable pub fits : List ℕ → List ℕ → ℕ → ℕ → ℕ → List ℕ → List ℕ → List ℕ → List ℕ → List ℕ → List ℕ → List ℕ → Bool → ℕ → ℕ → ℕ → ℕ → Bool
+fits from to e wire clock times delays spacings lasts near starts insts settled reach op s i =
     leb s (unit lasts op i)
-    && linksFit times delays near starts insts wire clock reach op s (unit times op i) (unit delays op i)
     && sharesFit spacings starts insts reach s i (unit spacings op i)
-    && (not (chained near starts reach op s) || chainsFit from to e wire clock times starts insts op s (unit times op i))
+    && (settled
+    || (linksFit times delays near starts insts wire clock reach op s (unit times op i) (unit delays op i)
+    && (not (chained near starts reach op s) || chainsFit from to e wire clock times starts insts op s (unit times op i))))
 
 -- ---- the first start: the latest end of those before op that are linked to it, at least 1
 
--- the step in which operation o ends, 0 where it is not placed
+-- the step in which operation o ends (it is not before its start), 0 where it is not placed
 unfoldable pub endOf : List ℕ → List ℕ → List ℕ → ℕ → ℕ
-endOf delays starts insts o = only (placed starts o) (finish (cell starts o) (unit delays o (cell insts o)))
+endOf delays starts insts o = only (placed starts o) (max (cell starts o) (finish (cell starts o) (unit delays o (cell insts o))))
 
 unfoldable pub firstStart : List ℕ → List ℕ → List ℕ → List ℕ → ℕ → ℕ → ℕ
 firstStart delays near starts insts op zero = 1

@@ -4,15 +4,23 @@ ghost use Prim.Native.Nat.{_<_, _≤_, _^_, max};
 ghost use lib.ListN.{length};
 ghost use Rattle.sheets.specs.Limits.{opCells, instCells};
 ghost use Rattle.rules.specs.Model.{rowTable};
+ghost use Rattle.rules.specs.Rules.{finish as finishOf};
 ghost use Rattle.placing.specs.Board.{unit, nearOf, Leads};
 ghost use Rattle.placing.specs.Fitting.{inTurn, pairOk, linksFit, shareFits, sharesFit, chained as chainedIn, chainsFit, fits as fitsIn, endOf, firstStart};
 use crate::boards::NEAR_CELLS;
+use crate::boards::NEAR_TABLE;
 use basics::cell;
 use rules::chains::chains_ok;
 use rules::precedence::precedes;
 use rules::resource::apart;
 use rules::rows::finish;
 use sheets::limits::*;
+
+fn wide(x: u16) -> usize
+    ensures { λ r. ⌜ (r ≡ x) × (r < 2 ^ 16) ⌝ }
+{
+    x as usize
+}
 
 // Operation o on instance i, in a table over both.
 fn unit_at(table: &[u16], o: usize, i: usize) -> u16
@@ -23,18 +31,18 @@ fn unit_at(table: &[u16], o: usize, i: usize) -> u16
 }
 
 // The first operation from x on that a link joins to operation o.
-fn near_at(near: &[u16], o: usize, x: usize) -> usize
+fn near_at(near: &[u16; NEAR_TABLE], o: usize, x: usize) -> usize
     requires { ⌜ (o < opCells) × (x ≤ opCells) ⌝ }
     ensures { λ r. ⌜ r ≡ nearOf (now (near .entry)) o x ⌝ }
 {
-    cell(near, NEAR_CELLS * o + x) as usize
+    wide(near[NEAR_CELLS * o + x])
 }
 
 // Operation o, which a link joins to op, is not placed, or the earlier of the two precedes the other.
 fn in_turn<'a>(
     delays: &'a [u16],
-    starts: &'a [u16],
-    insts: &'a [u16],
+    starts: &'a [u16; OP_CELLS],
+    insts: &'a [u16; OP_CELLS],
     op: usize,
     s: u16,
     delay: u16,
@@ -43,11 +51,11 @@ fn in_turn<'a>(
     requires { ⌜ o < opCells ⌝ }
     ensures { λ r. ⌜ r ≡ inTurn (now (delays .entry)) (now (starts .entry)) (now (insts .entry)) op s delay o ⌝ }
 {
-    let start = cell(starts, o);
+    let start = starts[o];
     if start == 0 {
         return true;
     }
-    let other = unit_at(delays, o, cell(insts, o) as usize);
+    let other = unit_at(delays, o, wide(insts[o]));
     if o < op {
         return precedes(start, other, s, delay);
     }
@@ -57,8 +65,8 @@ fn in_turn<'a>(
 // Operation o is not in step s, or the run of the two is within the clock.
 fn pair_ok<'a>(
     times: &'a [u16],
-    starts: &'a [u16],
-    insts: &'a [u16],
+    starts: &'a [u16; OP_CELLS],
+    insts: &'a [u16; OP_CELLS],
     wire: u16,
     clock: u16,
     s: u16,
@@ -68,10 +76,10 @@ fn pair_ok<'a>(
     requires { ⌜ o < opCells ⌝ }
     ensures { λ r. ⌜ r ≡ pairOk (now (times .entry)) (now (starts .entry)) (now (insts .entry)) wire clock s time o ⌝ }
 {
-    if cell(starts, o) != s {
+    if starts[o] != s {
         return true;
     }
-    let other = unit_at(times, o, cell(insts, o) as usize);
+    let other = unit_at(times, o, wide(insts[o]));
     time as u32 + wire as u32 + other as u32 <= clock as u32
 }
 
@@ -79,9 +87,9 @@ fn pair_ok<'a>(
 fn links_fit<'a>(
     times: &'a [u16],
     delays: &'a [u16],
-    near: &'a [u16],
-    starts: &'a [u16],
-    insts: &'a [u16],
+    near: &'a [u16; NEAR_TABLE],
+    starts: &'a [u16; OP_CELLS],
+    insts: &'a [u16; OP_CELLS],
     wire: u16,
     clock: u16,
     reach: usize,
@@ -107,8 +115,8 @@ fn links_fit<'a>(
 // Operation o is not on instance i, not placed, or starts apart from s.
 fn share_fits<'a>(
     spacings: &'a [u16],
-    starts: &'a [u16],
-    insts: &'a [u16],
+    starts: &'a [u16; OP_CELLS],
+    insts: &'a [u16; OP_CELLS],
     s: u16,
     i: usize,
     spacing: u16,
@@ -117,18 +125,18 @@ fn share_fits<'a>(
     requires { ⌜ (o < opCells) × (i < 2 ^ 16) ⌝ }
     ensures { λ r. ⌜ r ≡ shareFits (now (spacings .entry)) (now (starts .entry)) (now (insts .entry)) s i spacing o ⌝ }
 {
-    if cell(insts, o) as usize != i {
+    if wide(insts[o]) != i {
         return true;
     }
-    let start = cell(starts, o);
+    let start = starts[o];
     !(0 < start) | apart(start, s, spacing) | apart(s, start, unit_at(spacings, o, i))
 }
 
 // The same of each operation placed.
 fn shares_fit<'a>(
     spacings: &'a [u16],
-    starts: &'a [u16],
-    insts: &'a [u16],
+    starts: &'a [u16; OP_CELLS],
+    insts: &'a [u16; OP_CELLS],
     reach: usize,
     s: u16,
     i: usize,
@@ -148,13 +156,19 @@ fn shares_fit<'a>(
 }
 
 // An operation that a link joins to op is placed in step s.
-fn chained<'a>(near: &'a [u16], starts: &'a [u16], reach: usize, op: usize, s: u16) -> bool
+fn chained<'a>(
+    near: &'a [u16; NEAR_TABLE],
+    starts: &'a [u16; OP_CELLS],
+    reach: usize,
+    op: usize,
+    s: u16,
+) -> bool
     requires { ⌜ (reach ≤ opCells) × (op < opCells) × Leads (now near) op ⌝ }
     ensures { λ r. ⌜ r ≡ chainedIn (now (near .entry)) (now (starts .entry)) reach op s ⌝ }
 {
     let mut o = near_at(near, op, 0);
     while o < reach {
-        if cell(starts, o) == s {
+        if starts[o] == s {
             return true;
         }
         o = near_at(near, op, o + 1);
@@ -163,13 +177,13 @@ fn chained<'a>(near: &'a [u16], starts: &'a [u16], reach: usize, op: usize, s: u
 }
 
 // Each operation's time on its instance.
-fn times_in<'a>(times: &'a [u16], insts: &'a [u16]) -> [u16; OP_CELLS]
+fn times_in<'a>(times: &'a [u16], insts: &'a [u16; OP_CELLS]) -> [u16; OP_CELLS]
     ensures { λ r. ⌜ r ≡ rowTable (unit (now (times .entry))) (now (insts .entry)) ⌝ }
 {
     let mut row_times = [0u16; OP_CELLS];
     let mut o: usize = 0;
     while o < OP_CELLS {
-        row_times[o] = unit_at(times, o, cell(insts, o) as usize);
+        row_times[o] = unit_at(times, o, wide(insts[o]));
         o += 1;
     }
     row_times
@@ -184,7 +198,7 @@ fn chains_fit<'a>(
     clock: u16,
     times: &'a [u16],
     starts: &'a [u16; OP_CELLS],
-    insts: &'a [u16],
+    insts: &'a [u16; OP_CELLS],
     op: usize,
     s: u16,
     time: u16,
@@ -199,7 +213,8 @@ fn chains_fit<'a>(
     chains_ok(from, to, e, wire, clock, &with, &row_times)
 }
 
-// Operation op can be placed at step s on instance i.
+// Operation op can be placed at step s on instance i. Where its links are settled, because those that they join to it end before
+// that step, they are not asked.
 pub fn fits<'a>(
     from: &'a [u16],
     to: &'a [u16],
@@ -210,47 +225,50 @@ pub fn fits<'a>(
     delays: &'a [u16],
     spacings: &'a [u16],
     lasts: &'a [u16],
-    near: &'a [u16],
+    near: &'a [u16; NEAR_TABLE],
     starts: &'a [u16; OP_CELLS],
-    insts: &'a [u16],
+    insts: &'a [u16; OP_CELLS],
+    settled: bool,
     reach: usize,
     op: usize,
     s: u16,
     i: usize,
 ) -> bool
     requires { ⌜ (reach ≤ opCells) × (op < opCells) × (i < 2 ^ 16) × (length (now starts) ≡ opCells) × Leads (now near) op ⌝ }
-    ensures { λ r. ⌜ r ≡ fitsIn (now (from .entry)) (now (to .entry)) e wire clock (now (times .entry)) (now (delays .entry)) (now (spacings .entry)) (now (lasts .entry)) (now (near .entry)) (now (starts .entry)) (now (insts .entry)) reach op s i ⌝ }
+    ensures { λ r. ⌜ r ≡ fitsIn (now (from .entry)) (now (to .entry)) e wire clock (now (times .entry)) (now (delays .entry)) (now (spacings .entry)) (now (lasts .entry)) (now (near .entry)) (now (starts .entry)) (now (insts .entry)) settled reach op s i ⌝ }
 {
     if unit_at(lasts, op, i) < s {
-        return false;
-    }
-    let time = unit_at(times, op, i);
-    let delay = unit_at(delays, op, i);
-    if !links_fit(
-        times, delays, near, starts, insts, wire, clock, reach, op, s, time, delay,
-    ) {
         return false;
     }
     let spacing = unit_at(spacings, op, i);
     if !shares_fit(spacings, starts, insts, reach, s, i, spacing) {
         return false;
     }
+    if settled {
+        return true;
+    }
+    let time = unit_at(times, op, i);
+    let delay = unit_at(delays, op, i);
+    if !links_fit(
+        times,
+        delays,
+        near,
+        starts,
+        insts,
+        wire,
+        clock,
+        reach,
+        op,
+        s,
+        time,
+        delay,
+    ) {
+        return false;
+    }
     if !chained(near, starts, reach, op, s) {
         return true;
     }
     chains_fit(from, to, e, wire, clock, times, starts, insts, op, s, time)
-}
-
-// The step in which operation o ends, 0 where it is not placed.
-fn end_of<'a>(delays: &'a [u16], starts: &'a [u16], insts: &'a [u16], o: usize) -> u32
-    requires { ⌜ o < opCells ⌝ }
-    ensures { λ r. ⌜ r ≡ endOf (now (delays .entry)) (now (starts .entry)) (now (insts .entry)) o ⌝ }
-{
-    let start = cell(starts, o);
-    if start == 0 {
-        return 0;
-    }
-    finish(start, unit_at(delays, o, cell(insts, o) as usize))
 }
 
 // The later of two steps.
@@ -260,12 +278,36 @@ fn later(a: u32, b: u32) -> u32
     if a < b { b } else { a }
 }
 
+// The step in which an operation ends, not before its start.
+fn end_by(start: u16, delay: u16) -> u32
+    ensures { λ r. ⌜ r ≡ max start (finishOf start delay) ⌝ }
+{
+    later(start as u32, finish(start, delay))
+}
+
+// The same of operation o, 0 where it is not placed.
+fn end_of<'a>(
+    delays: &'a [u16],
+    starts: &'a [u16; OP_CELLS],
+    insts: &'a [u16; OP_CELLS],
+    o: usize,
+) -> u32
+    requires { ⌜ o < opCells ⌝ }
+    ensures { λ r. ⌜ r ≡ endOf (now (delays .entry)) (now (starts .entry)) (now (insts .entry)) o ⌝ }
+{
+    let start = starts[o];
+    if start == 0 {
+        return 0;
+    }
+    end_by(start, unit_at(delays, o, wide(insts[o])))
+}
+
 // A step before which operation op cannot start: the latest end of those before it that a link joins to it, at least 1.
 pub fn first_start<'a>(
     delays: &'a [u16],
-    near: &'a [u16],
-    starts: &'a [u16],
-    insts: &'a [u16],
+    near: &'a [u16; NEAR_TABLE],
+    starts: &'a [u16; OP_CELLS],
+    insts: &'a [u16; OP_CELLS],
     op: usize,
 ) -> u32
     requires { ⌜ (op < opCells) × Leads (now near) op ⌝ }

@@ -3,6 +3,7 @@ use Prim.Native.Nat.{ℕ, _-_, _≤_, _<_}
 use mathlib.Core.Path.{_≡_, refl, sym, ap, _∙_}
 use mathlib.Core.Bool.{true, false}
 use mathlib.Core.List.{List}
+use native.Mathlib.Nat.{lt-of-le-of-lt}
 use native.Mathlib.Omega.{arith}
 use borrow.Author.Tests.{le-leb, lt-leb}
 use lib.ListN.{length, replicate}
@@ -18,20 +19,23 @@ use Rattle.sheets.specs.declared.Reading.the-variants.{Read, Refused as Unread}
 use Rattle.sheets.specs.declared.Written.{Written}
 use Rattle.sheets.proofs.JobRoundTrip.{job-sound}
 use Rattle.rules.specs.Model.{instCount}
-use Rattle.placing.specs.Bound.{State}
+use Rattle.placing.specs.Bound.{State, tick}
 use Rattle.placing.specs.Board.{OfJob, boardOf}
-use Rattle.placing.specs.Options.{none}
-use Rattle.placing.specs.Placing.{Placing, smallest, smallestIn}
+use Rattle.placing.specs.Options.{none, children}
+use Rattle.placing.specs.Placing.{Placing, cost, smallest, smallestIn}
 use Rattle.placing.specs.declared.Board.{Board}
+use Rattle.placing.proofs.BoundLaws.{visits-walk}
 use Rattle.placing.proofs.CostLaws.{tracks-none}
 use Rattle.placing.proofs.PartLaws.{none-live}
 use Rattle.search.specs.Search.{walkFrom, begin, walked, planFrom, wrote, answered, within, searchJob, outIf, searchJobOut, WasRead, ifRead, search, outIfRead, searchOut}
-use Rattle.search.specs.Walking.{placing, Walkable, Walks}
+use Rattle.search.specs.Walking.{placing, stateOf, arrival, goesOn, Walkable, Walks}
+use Rattle.search.specs.declared.Arrival.{Arrival}
+use Rattle.search.specs.declared.Arrival.the-variants.{Spent as None, Shut, Open}
 use Rattle.search.specs.declared.Progress.{Progress}
 use Rattle.search.specs.declared.Walked.{Walked}
 use Rattle.search.specs.declared.Walked.the-variants.{Spent as Over, Done}
 use Rattle.search.proofs.SearchMeets.{found-shape}
-use Rattle.search.proofs.WalkLaws.{progressOf, spent-from, done-from}
+use Rattle.search.proofs.WalkLaws.{progressOf, spent-from, done-from, arrival-none, arrival-shut, arrival-open, visit-open}
 use Rattle.search.specs.declared.Searched.{Searched}
 use Rattle.search.specs.declared.Searched.the-variants.{Nothing, Spent, Refused}
 
@@ -60,21 +64,40 @@ begins b of =
       lows-long = refl;
     }
 
-pub whole-walk : {b : Board} (j : Job) → b ≡ boardOf j → walkFrom b (b .n - 0) none begin ≡ walked (boardOf j)
+abbrev pub atStart : Progress
+atStart = record { visits = 0; held = false; cost = 0 }
+
+-- the first arrival is never shut out, since nothing is held
+pub start-over : (j : Job) (budget : ℕ) (a : Arrival) → a ≡ arrival budget atStart 0 → ((x : Progress) → a ≡ Open x → ⊥) → budget < walked (boardOf j) .visits
 unfolding walked
-whole-walk {b} j e =
+start-over j budget None e h =
+    lt-of-le-of-lt (arrival-none budget atStart 0 e refl) (visits-walk Placing (cost (boardOf j)) (children (boardOf j)) (boardOf j .n) none begin)
+start-over j budget (Shut x) e h = absurd (let w = arrival-shut budget atStart 0 e refl in let z : _≡_ {A = ℕ} 0 1 = cc in omega arith)
+start-over j budget (Open x) e h = absurd (h x refl)
+
+pub first-kept : {budget : ℕ} {a : Arrival} {x : Progress} → a ≡ arrival budget atStart 0 → a ≡ Open x → x .visits ≤ budget
+first-kept {budget} e q = let h = arrival-open budget atStart 0 e q in rw (h .2) (omega (arith, h .0))
+
+pub whole-walk : {b : Board} (j : Job) (budget : ℕ) {a : Arrival} {x : Progress} → b ≡ boardOf j → a ≡ arrival budget atStart 0 → a ≡ Open x
+    → goesOn b (b .n - 0) none (stateOf x (none .starts) (none .insts)) ≡ walked (boardOf j)
+unfolding walked
+whole-walk {b} j budget {a} {x} of e q =
+    let h = arrival-open budget atStart 0 e q in
     let z : b .n - 0 ≡ b .n = omega arith in
-    ap (λ (d : ℕ). walkFrom b d none begin) z ∙ ap (λ (x : Board). walkFrom x (x .n) none begin) e
+    ap (λ (y : Progress). goesOn b (b .n - 0) none (stateOf y (none .starts) (none .insts))) (h .2)
+    ∙ ap (λ (d : ℕ). goesOn b d none (tick begin)) z
+    ∙ sym (visit-open b none (b .n) begin refl)
+    ∙ ap (λ (y : Board). walkFrom y (y .n) none begin) of
 
 -- ---- what the walk leaves
 
-module _ {b : Board} (j : Job) (of : b ≡ boardOf j) {budget : ℕ} {r : Walked} {p' best' : Placing} {lows lows' : List ℕ}
-    (w : Walks budget (walkFrom b (b .n - 0) none begin) r none p' best' lows lows') where
+module _ {b : Board} (j : Job) (of : b ≡ boardOf j) {budget : ℕ} {a : Arrival} {x : Progress} (at : a ≡ arrival budget atStart 0) (q : a ≡ Open x)
+    {r : Walked} {p' best' : Placing} {lows lows' : List ℕ} (w : Walks budget (goesOn b (b .n - 0) none (stateOf x (none .starts) (none .insts))) r none p' best' lows lows') where
   pub walk-spent : r ≡ Over → budget < walked (boardOf j) .visits
-  walk-spent q = rw (← whole-walk j of) (spent-from w q)
+  walk-spent e = rw (← whole-walk j budget of at q) (spent-from w e)
 
-  pub walk-done : {x : Progress} → r ≡ Done x → (walked (boardOf j) .visits ≤ budget) × (x ≡ progressOf (walked (boardOf j))) × (best' ≡ walked (boardOf j) .best .node)
-  walk-done q = let d = done-from w q in rw (← whole-walk j of) (d .0, d .1, w .keeps (d .0) .2)
+  pub walk-done : {y : Progress} → r ≡ Done y → (walked (boardOf j) .visits ≤ budget) × (y ≡ progressOf (walked (boardOf j))) × (best' ≡ walked (boardOf j) .best .node)
+  walk-done e = let d = done-from w e in rw (← whole-walk j budget of at q) (d .0, d .1, w .keeps (d .0) .2)
 
 module _ {b : Board} (j : Job) (of : b ≡ boardOf j) {starts insts : List ℕ} (best : placing starts insts ≡ walked (boardOf j) .best .node) where
   pub plan-is : {selection : List ℕ} → selection ≡ smallestIn (b .n) (b .k) (b .types) starts insts

@@ -4,15 +4,16 @@ use mathlib.Core.Path.{_≡_, refl, sym, ap, ap₂, _∙_}
 use mathlib.Core.Bool.{Bool, true, false, _&&_}
 use mathlib.Core.List.{List, [], _∷_}
 use native.Mathlib.Decide.{decLt}
+use native.Mathlib.Nat.{lt-of-le-of-lt}
 use native.Mathlib.Omega.{arith}
-use borrow.Author.Tests.{leb-true, leb-false, le-leb, lt-leb}
-use lib.Dec.{leb}
+use borrow.Author.Tests.{leb-true, leb-false, ltb-true, le-leb, lt-leb}
+use lib.Dec.{leb, ltb}
 use lib.ListN.{length, set, length-set}
 use lib.Seq.{set-set, set-getD, getD-set-other}
 use Rattle.basics.specs.Tables.{cell}
 use Rattle.sheets.specs.Limits.{opCells, instCells, typeCells}
 use Rattle.placing.specs.Bound.{State, Best, shut, tick, each, walk}
-use Rattle.placing.specs.Board.{OfJob}
+use Rattle.placing.specs.Board.{unit}
 use Rattle.placing.specs.Costing.{lowered, costWith, Tracks}
 use Rattle.placing.specs.Fitting.{fits, firstStart}
 use Rattle.placing.specs.Options.{Option, optionsAt, optionsFrom, options, put, keepIf, liveOnes, children}
@@ -21,9 +22,11 @@ use Rattle.placing.specs.declared.Board.{Board}
 use Rattle.placing.proofs.BoardLaws.{few-ops}
 use Rattle.placing.proofs.BoundLaws.{visits-walk, visits-each, walk-shut, walk-leaf, walk-open}
 use Rattle.placing.proofs.CostLaws.{tracks-put}
-use Rattle.placing.proofs.FitLaws.{fits-live, early-dead}
+use Rattle.placing.proofs.FitLaws.{fits-live, early-dead, settled-links}
 use Rattle.search.specs.Search.{walkFrom, within}
-use Rattle.search.specs.Walking.{placing, stateOf, Walkable, ended, Walks}
+use Rattle.search.specs.Walking.{placing, optionAt, stateOf, counted, arrivalIf, arrival, goesOn, Walkable, Visitable, ended, Walks}
+use Rattle.search.specs.declared.Arrival.{Arrival}
+use Rattle.search.specs.declared.Arrival.the-variants.{Spent as None, Shut, Open}
 use Rattle.search.specs.declared.Progress.{Progress}
 use Rattle.search.specs.declared.Walked.{Walked}
 use Rattle.search.specs.declared.Walked.the-variants.{Spent, Done}
@@ -76,15 +79,64 @@ module _ {budget : ℕ} {e : State Placing} {r : Walked} {p p' best' : Placing} 
   pub done-from : {x : Progress} → r ≡ Done x → (e .visits ≤ budget) × (x ≡ progressOf e)
   done-from {x} q = done-within budget e x (sym q ∙ w .answers)
 
--- ---- a visit that goes no further, and one that is the new best
+-- ---- an arrival, as the code counts it
 
-module _ (b : Board) (op : ℕ) (p : Placing) (v : State Placing) where
-  pub shut-over : shut (v .best) (cost b p) ≡ true → walkFrom b (b .n - op) p v ≡ tick v
-  shut-over h = walk-shut Placing (cost b) (children b) (b .n - op) p v h
+abbrev arrivalKind : Arrival → ℕ
+arrivalKind None = 0
+arrivalKind (Shut x) = 1
+arrivalKind (Open x) = 2
 
-  pub leaf-over : (here : ℕ) → here ≡ cost b p → op ≡ b .n → shut (v .best) (cost b p) ≡ false
-      → walkFrom b (b .n - op) p v ≡ record { visits = v .visits + 1; best = record { held = true; cost = here; node = p } }
-  leaf-over here h q e = let z : b .n - op ≡ 0 = omega arith in rw (z, h) (walk-leaf Placing (cost b) (children b) p v e)
+abbrev arrivalIn : Arrival → Progress → Progress
+arrivalIn None other = other
+arrivalIn (Shut x) other = x
+arrivalIn (Open x) other = x
+
+module _ (budget : ℕ) (x : Progress) (here : ℕ) where
+  abbrev out : Bool
+  out = x .held && leb (x .cost) here
+
+  pub arrival-none : {r : Arrival} → r ≡ arrival budget x here → r ≡ None → budget ≤ x .visits
+  unfolding arrivalIf
+  arrival-none e q = go (leb budget (x .visits)) out refl (sym q ∙ e)
+    where
+      go : (t u : Bool) → leb budget (x .visits) ≡ t → None ≡ arrivalIf t u (counted x) → budget ≤ x .visits
+      go true u h p = leb-true budget (x .visits) h
+      go false true h p = absurd (let z : 0 ≡ 1 = ap arrivalKind p in omega arith)
+      go false false h p = absurd (let z : 0 ≡ 2 = ap arrivalKind p in omega arith)
+
+  pub arrival-shut : {r : Arrival} {y : Progress} → r ≡ arrival budget x here → r ≡ Shut y → (x .visits < budget) × (out ≡ true) × (y ≡ counted x)
+  unfolding arrivalIf
+  arrival-shut {r} {y} e q = go (leb budget (x .visits)) out refl refl (sym q ∙ e)
+    where
+      go : (t u : Bool) → leb budget (x .visits) ≡ t → out ≡ u → Shut y ≡ arrivalIf t u (counted x) → (x .visits < budget) × (out ≡ true) × (y ≡ counted x)
+      go true u h k p = absurd (let z : 1 ≡ 0 = ap arrivalKind p in omega arith)
+      go false true h k p = (leb-false budget (x .visits) h, k, ap (λ (w : Arrival). arrivalIn w x) p)
+      go false false h k p = absurd (let z : 1 ≡ 2 = ap arrivalKind p in omega arith)
+
+  pub arrival-open : {r : Arrival} {y : Progress} → r ≡ arrival budget x here → r ≡ Open y → (x .visits < budget) × (out ≡ false) × (y ≡ counted x)
+  unfolding arrivalIf
+  arrival-open {r} {y} e q = go (leb budget (x .visits)) out refl refl (sym q ∙ e)
+    where
+      go : (t u : Bool) → leb budget (x .visits) ≡ t → out ≡ u → Open y ≡ arrivalIf t u (counted x) → (x .visits < budget) × (out ≡ false) × (y ≡ counted x)
+      go true u h k p = absurd (let z : 2 ≡ 0 = ap arrivalKind p in omega arith)
+      go false true h k p = absurd (let z : 2 ≡ 1 = ap arrivalKind p in omega arith)
+      go false false h k p = (leb-false budget (x .visits) h, k, ap (λ (w : Arrival). arrivalIn w x) p)
+
+-- ---- a visit goes no further, or on
+
+module _ (b : Board) (p : Placing) where
+  pub visit-shut : (d : ℕ) (v : State Placing) → shut (v .best) (cost b p) ≡ true → walkFrom b d p v ≡ tick v
+  visit-shut d v h = walk-shut Placing (cost b) (children b) d p v h
+
+  pub visit-open : (d : ℕ) (v : State Placing) → shut (v .best) (cost b p) ≡ false → walkFrom b d p v ≡ goesOn b d p (tick v)
+  unfolding goesOn
+  visit-open zero v h = walk-leaf Placing (cost b) (children b) p v h
+  visit-open (suc d) v h = walk-open Placing (cost b) (children b) d p v h
+
+  pub goes-leaf : {op here : ℕ} (v : State Placing) → here ≡ cost b p → op ≡ b .n
+      → goesOn b (b .n - op) p v ≡ record { visits = v .visits; best = record { held = true; cost = here; node = p } }
+  unfolding goesOn
+  goes-leaf {op} v h q = let z : b .n - op ≡ 0 = omega arith in rw (z, h)
 
 -- ---- the walk goes on with these options of operation op
 
@@ -92,14 +144,13 @@ abbrev pub rest : Board → ℕ → Placing → List Option → State Placing �
 rest b op p rs v = each (walkFrom b (b .n - (op + 1))) (liveOnes b p op rs) v
 
 module _ (b : Board) (op : ℕ) (p : Placing) where
-  pub open-over : (v : State Placing) → op < b .n → shut (v .best) (cost b p) ≡ false → walkFrom b (b .n - op) p v ≡ rest b op p (options b) (tick v)
-  unfolding children
-  open-over v l e =
+  pub goes-rest : (v : State Placing) → op < b .n → goesOn b (b .n - op) p v ≡ rest b op p (options b) v
+  unfolding goesOn children
+  goes-rest v l =
       let z : b .n - op ≡ suc (b .n - (op + 1)) = omega arith in
       let y : b .n - suc (b .n - (op + 1)) ≡ op = omega arith in
-      ap (λ (d : ℕ). walkFrom b d p v) z
-      ∙ walk-open Placing (cost b) (children b) (b .n - (op + 1)) p v e
-      ∙ ap (λ (o : ℕ). each (walkFrom b (b .n - (op + 1))) (liveOnes b p o (options b)) (tick v)) y
+      ap (λ (d : ℕ). goesOn b d p v) z
+      ∙ ap (λ (o : ℕ). each (walkFrom b (b .n - (op + 1))) (liveOnes b p o (options b)) v) y
 
   rest-live : (r : Option) (rs : List Option) (v : State Placing) → live b (put p op r) ≡ true
       → rest b op p (r ∷ rs) v ≡ rest b op p rs (walkFrom b (b .n - (op + 1)) (put p op r) v)
@@ -121,7 +172,7 @@ module _ (b : Board) (op : ℕ) (p : Placing) where
   abbrev pub from-start : ℕ → List Option
   from-start s = optionsFrom (b .k) s (b .t + 1 - s)
 
-  row-at : (s i : ℕ) → i < b .k → row s i ≡ record { start = s; inst = i } ∷ row s (i + 1)
+  row-at : (s i : ℕ) → i < b .k → row s i ≡ optionAt s i ∷ row s (i + 1)
   unfolding optionsAt
   row-at s i l = let z : b .k - i ≡ suc (b .k - (i + 1)) = omega arith in rw z
 
@@ -149,15 +200,15 @@ module _ (b : Board) (op : ℕ) (p : Placing) where
         let z : b .t + 1 - s ≡ 0 = omega arith in
         sym e ∙ ap (λ (m : ℕ). rest b op p (optionsFrom (b .k) s m) v) z
 
-    pub past-dead : (s i : ℕ) → i < b .k → live b (put p op (record { start = s; inst = i })) ≡ false
+    pub past-dead : (s i : ℕ) → i < b .k → live b (put p op (optionAt s i)) ≡ false
         → rest b op p (row s i) v ≡ u → rest b op p (row s (i + 1)) v ≡ u
     past-dead s i l d e =
-        sym (rest-dead (record { start = s; inst = i }) (row s (i + 1)) v d) ∙ ap (λ (rs : List Option). rest b op p rs v) (sym (row-at s i l)) ∙ e
+        sym (rest-dead (optionAt s i) (row s (i + 1)) v d) ∙ ap (λ (rs : List Option). rest b op p rs v) (sym (row-at s i l)) ∙ e
 
-    pub past-live : (s i : ℕ) → i < b .k → live b (put p op (record { start = s; inst = i })) ≡ true
-        → rest b op p (row s i) v ≡ u → rest b op p (row s (i + 1)) (walkFrom b (b .n - (op + 1)) (put p op (record { start = s; inst = i })) v) ≡ u
+    pub past-live : (s i : ℕ) → i < b .k → live b (put p op (optionAt s i)) ≡ true
+        → rest b op p (row s i) v ≡ u → rest b op p (row s (i + 1)) (walkFrom b (b .n - (op + 1)) (put p op (optionAt s i)) v) ≡ u
     past-live s i l d e =
-        sym (rest-live (record { start = s; inst = i }) (row s (i + 1)) v d) ∙ ap (λ (rs : List Option). rest b op p rs v) (sym (row-at s i l)) ∙ e
+        sym (rest-live (optionAt s i) (row s (i + 1)) v d) ∙ ap (λ (rs : List Option). rest b op p rs v) (sym (row-at s i l)) ∙ e
 
   -- spent on the way, spent at the end
   pub spent-end : {budget : ℕ} (rs : List Option) (e : State Placing) {u : State Placing} → rest b op p rs e ≡ u → budget < e .visits → budget < u .visits
@@ -171,7 +222,7 @@ module _ (b : Board) (op : ℕ) (p : Placing) where
   skip-row v s i (suc m) e d =
       sym (past-dead v (rest b op p (row s i) v) s i (omega arith) (d i (omega arith)) refl) ∙ skip-row v s (i + 1) m (omega arith) d
 
-  skip-starts : (v : State Placing) (m first : ℕ) → m + 1 ≡ first → ((s i : ℕ) → 1 ≤ s → s < first → i < b .k → live b (put p op (record { start = s; inst = i })) ≡ false)
+  skip-starts : (v : State Placing) (m first : ℕ) → m + 1 ≡ first → ((s i : ℕ) → 1 ≤ s → s < first → i < b .k → live b (put p op (optionAt s i)) ≡ false)
       → rest b op p (from-start 1) v ≡ rest b op p (from-start first) v
   skip-starts v zero first e d = rw (sym e)
   skip-starts v (suc m) first e d =
@@ -187,58 +238,50 @@ module _ (b : Board) (op : ℕ) (p : Placing) where
       past-end : (s s' : ℕ) → b .t < s → s ≤ s' → rest b op p (from-start s) v ≡ rest b op p (from-start s') v
       past-end s s' l q = end-starts v (rest b op p (from-start s) v) s l refl ∙ sym (end-starts v (rest b op p (from-start s') v) s' (omega arith) refl)
 
--- ---- what a level stands on: op is yet to be placed, and the row that stood there is remembered
+-- ---- a level with operation op to place
 
-pub record Open (b : Board) (op : ℕ) (p : Placing) (lows : List ℕ) (here startWas instWas : ℕ) : Type 0 where
-  pub able : Walkable b op p lows here
-  pub more : op < b .n
-  pub start : startWas ≡ cell (p .starts) op
-  pub inst : instWas ≡ cell (p .insts) op
+module _ {b : Board} {op : ℕ} {p : Placing} {lows : List ℕ} {here : ℕ} (w : Walkable b op p lows here) (more : op < b .n) where
+  -- the code's test is whether the option is live; behind the first start links are settled
+  pub fits-here : {r : Bool} (first s i : ℕ) → first ≡ firstStart (b .delays) (b .near) (p .starts) (p .insts) op op → 1 ≤ s → i < b .k
+      → r ≡ fits (b .from) (b .to) (b .e) (b .wire) (b .clock) (b .times) (b .delays) (b .spacings) (b .lasts) (b .near) (p .starts) (p .insts) (ltb first s) op op s i
+      → live b (put p op (optionAt s i)) ≡ r
+  fits-here first s i f a l e =
+      sym (e ∙ fits-live b (w .of) p (w .starts-long) (w .insts-long) (w .alive) (ltb first s) op op s i
+      (λ h. settled-links (b .delays) (b .near) (p .starts) (p .insts) op (b .times) (b .wire) (b .clock) s (unit (b .times) op i) (unit (b .delays) op i) (rw f at (ltb-true first s h)))
+      (w .behind) (omega arith) more l a (w .behind op (omega arith)))
 
-module _ {b : Board} {op : ℕ} {p : Placing} {lows : List ℕ} {here startWas instWas : ℕ} (o : Open b op p lows here startWas instWas) where
-  pub open-few : op < opCells
-  open-few = omega (arith, o .more, few-ops b (o .able .of))
-
-  -- the code's test is whether the option is live
-  pub fits-here : {r : Bool} (s i : ℕ) → 1 ≤ s → i < b .k
-      → r ≡ fits (b .from) (b .to) (b .e) (b .wire) (b .clock) (b .times) (b .delays) (b .spacings) (b .lasts) (b .near) (p .starts) (p .insts) op op s i
-      → live b (put p op (record { start = s; inst = i })) ≡ r
-  fits-here s i a l e =
-      let w = o .able in
-      sym (e ∙ fits-live b (w .of) p (w .starts-long) (w .insts-long) (w .alive) op op s i (w .behind) (omega (arith, o .more)) (o .more) l a (w .behind op (omega arith)))
-
-  -- the walk from here, where it goes on
-  pub open-first : (v : State Placing) (first : ℕ) → first ≡ firstStart (b .delays) (b .near) (p .starts) (p .insts) op op → 1 ≤ first
-      → shut (v .best) (cost b p) ≡ false → walkFrom b (b .n - op) p v ≡ rest b op p (from-start b op p first) (tick v)
-  open-first v first e a h =
-      let w = o .able in
+  -- starts before the first are passed over
+  pub goes-first : (v : State Placing) (first : ℕ) → first ≡ firstStart (b .delays) (b .near) (p .starts) (p .insts) op op → 1 ≤ first
+      → goesOn b (b .n - op) p v ≡ rest b op p (from-start b op p first) v
+  goes-first v first e a =
       let z : b .t + 1 - 1 ≡ b .t = omega arith in
-      open-over b op p v (o .more) h
-      ∙ ap (λ (m : ℕ). rest b op p (optionsFrom (b .k) 1 m) (tick v)) (sym z)
-      ∙ skip-starts b op p (tick v) (first - 1) first (omega arith) (λ s i q l k. early-dead b (w .of) p (w .starts-long) (w .insts-long) op s i (o .more) k q (rw e at l))
+      goes-rest b op p v more
+      ∙ ap (λ (m : ℕ). rest b op p (optionsFrom (b .k) 1 m) v) (sym z)
+      ∙ skip-starts b op p v (first - 1) first (omega arith) (λ s i q l k. early-dead b (w .of) p (w .starts-long) (w .insts-long) op s i more k q (rw e at l))
 
-  -- with one more row the next level can be walked
-  pub next-walkable : {low lowest cost' : ℕ} (s i : ℕ) → 1 ≤ s → i < b .k → live b (put p op (record { start = s; inst = i })) ≡ true → low ≡ cell lows (cell (b .types) i)
-      → lowest ≡ min low i → cost' ≡ costWith (b .types) (b .costs) (set lows (cell (b .types) i) lowest) (b .k) here low i
-      → Walkable b (op + 1) (put p op (record { start = s; inst = i })) (set lows (cell (b .types) i) lowest) cost'
-  next-walkable {low} {lowest} s i a l h e m q =
-      let w = o .able in
-      record {
-        of = w .of;
-        few = omega (arith, o .more);
-        alive = h;
-        behind = λ x k. getD-set-other (p .starts) op x s 0 (omega arith) ∙ w .behind x (omega arith);
-        tracks = rw (q, m, e) (tracks-put b (w .of) p (w .starts-long) (w .insts-long) lows here (w .lows-long) (w .tracks) op s i (o .more) (w .behind op (omega arith)) a l);
-        starts-long = length-set (p .starts) op s ∙ w .starts-long;
-        insts-long = length-set (p .insts) op i ∙ w .insts-long;
-        lows-long = length-set lows (cell (b .types) i) lowest ∙ w .lows-long;
-      }
+-- with one more row the next level can be walked
+pub next-walkable : {b : Board} {op : ℕ} {p : Placing} {lows : List ℕ} {here s i : ℕ} (w : Visitable b op p lows here s i) {low lowest cost' : ℕ}
+    → low ≡ cell lows (cell (b .types) i) → lowest ≡ min low i → cost' ≡ costWith (b .types) (b .costs) (set lows (cell (b .types) i) lowest) (b .k) here low i
+    → Walkable b (op + 1) (put p op (optionAt s i)) (set lows (cell (b .types) i) lowest) cost'
+next-walkable {b} {op} {p} {lows} {here} {s} {i} v {low} {lowest} e m q =
+    let w = v .able in
+    record {
+      of = w .of;
+      few = omega (arith, v .more);
+      alive = v .lives;
+      behind = λ x k. getD-set-other (p .starts) op x s 0 (omega arith) ∙ w .behind x (omega arith);
+      tracks = rw (q, m, e) (tracks-put b (w .of) p (w .starts-long) (w .insts-long) lows here (w .lows-long) (w .tracks) op s i (v .more) (w .behind op (omega arith)) (v .begins) (v .unit));
+      starts-long = length-set (p .starts) op s ∙ w .starts-long;
+      insts-long = length-set (p .insts) op i ∙ w .insts-long;
+      lows-long = length-set lows (cell (b .types) i) lowest ∙ w .lows-long;
+    }
 
 -- ---- where a loop of the level stands: what it changed is as it was, and the walk goes on with these options to its end u
 
-pub record Stands (b : Board) (op here startWas instWas budget : ℕ) (p₀ : Placing) (lows₀ : List ℕ) (u : State Placing)
+pub record Stands (b : Board) (op here budget : ℕ) (p₀ : Placing) (lows₀ : List ℕ) (u : State Placing)
     (p : Placing) (lows : List ℕ) (v : State Placing) (rs : List Option) : Type 0 where
-  pub is-open : Open b op p lows here startWas instWas
+  pub able : Walkable b op p lows here
+  pub more : op < b .n
   pub same : p ≡ p₀
   pub same-lows : lows ≡ lows₀
   pub kept : v .visits ≤ budget
@@ -257,16 +300,10 @@ state-is d q = λ i. record { visits = d i .visits; best = record { held = d i .
 pub same-state : {x x' : Progress} {starts starts' insts insts' : List ℕ} → x' ≡ x → starts' ≡ starts → insts' ≡ insts → stateOf x' starts' insts' ≡ stateOf x starts insts
 same-state p q r = λ i. stateOf (p i) (q i) (r i)
 
--- ---- whether a visit is shut out, as the code finds it
-
-pub shut-held : {held : Bool} {best c here : ℕ} → here ≡ c → held ≡ true → best ≤ here → (held && leb best c) ≡ true
-shut-held {held} {best} {c} {here} q p l = rw (p, ← q) (le-leb best here l)
-
-pub open-none : {held : Bool} (t : Bool) → held ≡ false → (held && t) ≡ false
-open-none t p = rw p
-
-pub open-dearer : {held : Bool} {best c here : ℕ} → here ≡ c → held ≡ true → here < best → (held && leb best c) ≡ false
-open-dearer {held} {best} {c} {here} q p l = rw (p, ← q) (lt-leb best here l)
+-- the first start of the same rows
+pub same-first : (delays near : List ℕ) (op : ℕ) {first : ℕ} {p p' : Placing} → p' ≡ p → first ≡ firstStart delays near (p .starts) (p .insts) op op
+    → first ≡ firstStart delays near (p' .starts) (p' .insts) op op
+same-first delays near op e f = f ∙ ap (λ (q : Placing). firstStart delays near (q .starts) (q .insts) op op) (sym e)
 
 -- the first start is at least 1
 pub first-positive : (delays near starts insts : List ℕ) (op o : ℕ) → 1 ≤ firstStart delays near starts insts op o
@@ -276,57 +313,110 @@ first-positive delays near starts insts op (suc o) = omega (arith, first-positiv
 
 -- ---- the loops of a level, one turn on
 
-module _ {b : Board} {op here startWas instWas budget : ℕ} {p₀ : Placing} {lows₀ : List ℕ} {u : State Placing} where
-  -- the same rows and the same state under other names, with other options
-  stands-as : {p p' : Placing} {lows lows' : List ℕ} {v v' : State Placing} {rs rs' : List Option} → Stands b op here startWas instWas budget p₀ lows₀ u p lows v rs
-      → p' ≡ p → lows' ≡ lows → v' .visits ≤ budget → rest b op p rs' v' ≡ u → Stands b op here startWas instWas budget p₀ lows₀ u p' lows' v' rs'
+module _ {b : Board} {op here budget : ℕ} {p₀ : Placing} {lows₀ : List ℕ} {u : State Placing} where
+  -- the same rows under other names, with other options and another state
+  stands-as : {p p' : Placing} {lows lows' : List ℕ} {v v' : State Placing} {rs rs' : List Option} → Stands b op here budget p₀ lows₀ u p lows v rs
+      → p' ≡ p → lows' ≡ lows → v' .visits ≤ budget → rest b op p rs' v' ≡ u → Stands b op here budget p₀ lows₀ u p' lows' v' rs'
   stands-as st e f k g =
-      record { is-open = rw (e, f) (st .is-open); same = e ∙ st .same; same-lows = f ∙ st .same-lows; kept = k; goes = rw e g }
+      record { able = rw (e, f) (st .able); more = st .more; same = e ∙ st .same; same-lows = f ∙ st .same-lows; kept = k; goes = rw e g }
 
   -- an option that is not live is passed over
   pub after-dead : {starts starts' insts insts' lows lows' best-starts best-starts' best-insts best-insts' : List ℕ} {x x' : Progress} (s i : ℕ)
-      → Stands b op here startWas instWas budget p₀ lows₀ u (placing starts insts) lows (stateOf x best-starts best-insts) (row b op p₀ s i)
-      → i < b .k → live b (put (placing starts insts) op (record { start = s; inst = i })) ≡ false
+      → Stands b op here budget p₀ lows₀ u (placing starts insts) lows (stateOf x best-starts best-insts) (row b op p₀ s i)
+      → i < b .k → live b (put (placing starts insts) op (optionAt s i)) ≡ false
       → starts' ≡ starts → insts' ≡ insts → lows' ≡ lows → best-starts' ≡ best-starts → best-insts' ≡ best-insts → x' ≡ x
-      → Stands b op here startWas instWas budget p₀ lows₀ u (placing starts' insts') lows' (stateOf x' best-starts' best-insts') (row b op p₀ s (i + 1))
+      → Stands b op here budget p₀ lows₀ u (placing starts' insts') lows' (stateOf x' best-starts' best-insts') (row b op p₀ s (i + 1))
   after-dead {starts} {starts'} {insts} {insts'} {lows} {lows'} {best-starts} {best-starts'} {best-insts} {best-insts'} {x} {x'} s i st l d e₁ e₂ e₃ e₄ e₅ e₆ =
       let v : stateOf x' best-starts' best-insts' ≡ stateOf x best-starts best-insts = same-state e₆ e₄ e₅ in
       stands-as st (λ k. placing (e₁ k) (e₂ k)) e₃ (rw v (st .kept)) (rw v (past-dead b op (placing starts insts) (stateOf x best-starts best-insts) u s i l d (st .goes)))
 
-  -- one that is live is walked, and then taken back
+  -- one that is live was visited
   pub after-live : {starts starts' starts'' insts insts' insts'' lows lows' lows'' best-starts best-starts' best-starts'' best-insts best-insts' best-insts'' : List ℕ}
-      {x x' x'' : Progress} {r : Walked} {low : ℕ} (lowest s i : ℕ)
-      → Stands b op here startWas instWas budget p₀ lows₀ u (placing starts insts) lows (stateOf x best-starts best-insts) (row b op p₀ s i)
-      → i < b .k → live b (put (placing starts insts) op (record { start = s; inst = i })) ≡ true → low ≡ cell lows (cell (b .types) i)
-      → Walks budget (walkFrom b (b .n - (op + 1)) (put (placing starts insts) op (record { start = s; inst = i })) (stateOf x best-starts best-insts)) r
-        (put (placing starts insts) op (record { start = s; inst = i })) (placing starts' insts') (placing best-starts' best-insts') (set lows (cell (b .types) i) lowest) lows'
-      → r ≡ Done x'
-      → starts'' ≡ set starts' op startWas → insts'' ≡ set insts' op instWas → lows'' ≡ set lows' (cell (b .types) i) low
-      → best-starts'' ≡ best-starts' → best-insts'' ≡ best-insts' → x'' ≡ x'
-      → Stands b op here startWas instWas budget p₀ lows₀ u (placing starts'' insts'') lows'' (stateOf x'' best-starts'' best-insts'') (row b op p₀ s (i + 1))
+      {x x' x'' : Progress} {r : Walked} (s i : ℕ)
+      → Stands b op here budget p₀ lows₀ u (placing starts insts) lows (stateOf x best-starts best-insts) (row b op p₀ s i)
+      → i < b .k → live b (put (placing starts insts) op (optionAt s i)) ≡ true
+      → Walks budget (walkFrom b (b .n - (op + 1)) (put (placing starts insts) op (optionAt s i)) (stateOf x best-starts best-insts)) r
+      (placing starts insts) (placing starts' insts') (placing best-starts' best-insts') lows lows'
+      → r ≡ Done x' → starts'' ≡ starts' → insts'' ≡ insts' → lows'' ≡ lows' → best-starts'' ≡ best-starts' → best-insts'' ≡ best-insts' → x'' ≡ x'
+      → Stands b op here budget p₀ lows₀ u (placing starts'' insts'') lows'' (stateOf x'' best-starts'' best-insts'') (row b op p₀ s (i + 1))
   after-live {starts} {starts'} {starts''} {insts} {insts'} {insts''} {lows} {lows'} {lows''} {best-starts} {best-starts'} {best-starts''} {best-insts} {best-insts'} {best-insts''}
-      {x} {x'} {x''} {r} {low} lowest s i st l d m w q e₁ e₂ e₃ e₄ e₅ e₆ =
+      {x} {x'} {x''} s i st l d w q e₁ e₂ e₃ e₄ e₅ e₆ =
       let p : Placing = placing starts insts in
-      let more : Placing = put p op (record { start = s; inst = i }) in
-      let e : State Placing = walkFrom b (b .n - (op + 1)) more (stateOf x best-starts best-insts) in
+      let e : State Placing = walkFrom b (b .n - (op + 1)) (put p op (optionAt s i)) (stateOf x best-starts best-insts) in
       let done = done-from w q in
       let kept = w .keeps (done .0) in
       let v : stateOf x'' best-starts'' best-insts'' ≡ e = same-state e₆ e₄ e₅ ∙ state-is (done .1) (kept .2) in
-      let a : starts'' ≡ starts = e₁ ∙ restored op s (ap (λ (z : Placing). z .starts) (kept .0)) (st .is-open .start) in
-      let c : insts'' ≡ insts = e₂ ∙ restored op i (ap (λ (z : Placing). z .insts) (kept .0)) (st .is-open .inst) in
-      stands-as st (λ k. placing (a k) (c k)) (e₃ ∙ restored (cell (b .types) i) lowest (kept .1) m) (rw v (done .0))
-      (rw v (past-live b op p (stateOf x best-starts best-insts) u s i l d (st .goes)))
+      let a : placing starts'' insts'' ≡ placing starts' insts' = λ k. placing (e₁ k) (e₂ k) in
+      stands-as st (a ∙ kept .0) (e₃ ∙ kept .1) (rw v (done .0)) (rw v (past-live b op p (stateOf x best-starts best-insts) u s i l d (st .goes)))
 
 -- the row of a start is done
-pub next-start : {b : Board} {op here startWas instWas budget : ℕ} {p₀ p₁ p : Placing} {lows₀ lows₁ lows : List ℕ} {u v₁ v : State Placing} (s i : ℕ)
-    → Stands b op here startWas instWas budget p₀ lows₀ u p₁ lows₁ v₁ (from-start b op p₀ s) → s ≤ b .t
-    → Stands b op here startWas instWas budget p₁ lows₁ (rest b op p₁ (row b op p₁ s 0) v₁) p lows v (row b op p₁ s i) → b .k ≤ i
-    → Stands b op here startWas instWas budget p₀ lows₀ u p lows v (from-start b op p₀ (s + 1))
-next-start {b} {op} {here} {startWas} {instWas} {budget} {p₀} {p₁} {p} {lows₀} {lows₁} {lows} {u} {v₁} {v} s i outer l inner q =
+pub next-start : {b : Board} {op here budget : ℕ} {p₀ p₁ p : Placing} {lows₀ lows₁ lows : List ℕ} {u v₁ v : State Placing} (s i : ℕ)
+    → Stands b op here budget p₀ lows₀ u p₁ lows₁ v₁ (from-start b op p₀ s) → s ≤ b .t
+    → Stands b op here budget p₁ lows₁ (rest b op p₁ (row b op p₁ s 0) v₁) p lows v (row b op p₁ s i) → b .k ≤ i
+    → Stands b op here budget p₀ lows₀ u p lows v (from-start b op p₀ (s + 1))
+next-start {b} {op} {here} {budget} {p₀} {p₁} {p} {lows₀} {lows₁} {lows} {u} {v₁} {v} s i outer l inner q =
     record {
-      is-open = inner .is-open;
+      able = inner .able;
+      more = inner .more;
       same = inner .same ∙ outer .same;
       same-lows = inner .same-lows ∙ outer .same-lows;
       kept = inner .kept;
       goes = end-row b op p v u s i q (inner .goes ∙ begin-row b op p₁ v₁ u s l (outer .goes));
     }
+
+-- ---- the ends of a visit
+
+module _ {b : Board} {op : ℕ} {p : Placing} {lows : List ℕ} {here s i : ℕ} (w : Visitable b op p lows here s i) (x : Progress) (starts insts : List ℕ) (budget : ℕ) {low lowest cost' : ℕ}
+    (l : low ≡ cell lows (cell (b .types) i)) (m : lowest ≡ min low i)
+    (c : cost' ≡ costWith (b .types) (b .costs) (set lows (cell (b .types) i) lowest) (b .k) here low i) {a : Arrival} (at : a ≡ arrival budget x cost') where
+  abbrev more : Placing
+  more = put p op (optionAt s i)
+
+  abbrev end : State Placing
+  end = walkFrom b (b .n - (op + 1)) more (stateOf x starts insts)
+
+  now-cost : cost' ≡ cost b more
+  now-cost = next-walkable w l m c .tracks .costs
+
+  pub visit-none : (p' best' : Placing) (lows' : List ℕ) → a ≡ None → Walks budget end Spent p p' best' lows lows'
+  visit-none p' best' lows' q =
+      walks-spent budget end p p' best' lows lows'
+      (lt-of-le-of-lt (arrival-none budget x cost' at q) (visits-walk Placing (cost b) (children b) (b .n - (op + 1)) more (stateOf x starts insts)))
+
+  pub visit-out : {y : Progress} {lows' : List ℕ} → a ≡ Shut y → lows' ≡ set (set lows (cell (b .types) i) lowest) (cell (b .types) i) low
+      → Walks budget end (Done y) p p (placing starts insts) lows lows'
+  visit-out {y} {lows'} q e =
+      let h = arrival-shut budget x cost' at q in
+      let t : (x .held && leb (x .cost) (cost b more)) ≡ true = rw (← now-cost) (h .1) in
+      walks-done budget end y p p starts insts lows lows' (visit-shut b more (b .n - (op + 1)) (stateOf x starts insts) t ∙ sym (same-state (h .2) refl refl))
+      (rw (h .2) (omega (arith, h .0))) refl (e ∙ restored (cell (b .types) i) lowest refl l)
+
+  module _ {y : Progress} (q : a ≡ Open y) where
+    pub next-kept : y .visits ≤ budget
+    next-kept = let h = arrival-open budget x cost' at q in rw (h .2) (omega (arith, h .0))
+
+    goes : goesOn b (b .n - (op + 1)) more (stateOf y starts insts) ≡ end
+    goes =
+        let h = arrival-open budget x cost' at q in
+        let t : (x .held && leb (x .cost) (cost b more)) ≡ false = rw (← now-cost) (h .1) in
+        ap (λ (z : Progress). goesOn b (b .n - (op + 1)) more (stateOf z starts insts)) (h .2) ∙ sym (visit-open b more (b .n - (op + 1)) (stateOf x starts insts) t)
+
+    module _ {r : Walked} {p' best' : Placing} {lows' : List ℕ}
+        (k : Walks budget (goesOn b (b .n - (op + 1)) more (stateOf y starts insts)) r more p' best' (set lows (cell (b .types) i) lowest) lows') where
+      pub visit-spent : (p'' best'' : Placing) (lows'' : List ℕ) → r ≡ Spent → Walks budget end Spent p p'' best'' lows lows''
+      visit-spent p'' best'' lows'' e = walks-spent budget end p p'' best'' lows lows'' (rw (← goes) (spent-from k e))
+
+      -- the row is taken back
+      pub visit-done : {z : Progress} {starts'' insts'' lows'' : List ℕ} {startWas instWas : ℕ} → r ≡ Done z → startWas ≡ cell (p .starts) op → instWas ≡ cell (p .insts) op
+          → starts'' ≡ set (p' .starts) op startWas → insts'' ≡ set (p' .insts) op instWas → lows'' ≡ set lows' (cell (b .types) i) low
+          → Walks budget end (Done z) p (placing starts'' insts'') best' lows lows''
+      unfolding ended
+      visit-done {z} {starts''} {insts''} {lows''} e sw iw e₁ e₂ e₃ =
+          let d = done-from k e in
+          let w = k .keeps (d .0) in
+          let a₁ : starts'' ≡ p .starts = e₁ ∙ restored op s (ap (λ (x : Placing). x .starts) (w .0)) sw in
+          let a₂ : insts'' ≡ p .insts = e₂ ∙ restored op i (ap (λ (x : Placing). x .insts) (w .0)) iw in
+          rw (← goes) (record {
+            answers = sym e ∙ k .answers;
+            keeps = λ _. ((λ j. placing (a₁ j) (a₂ j)), e₃ ∙ restored (cell (b .types) i) lowest (w .1) l, w .2);
+          })

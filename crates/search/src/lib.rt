@@ -9,6 +9,13 @@ pub struct Progress {
     pub cost: u32,
 }
 
+// What an arrival comes to: there is no budget for it, it is counted and goes no further, or it is counted and goes on.
+pub enum Arrival {
+    Spent,
+    Shut(Progress),
+    Open(Progress),
+}
+
 // Where a walk ends: its budget spent, or done.
 pub enum Walked {
     Spent,

@@ -4,9 +4,11 @@ ghost use lib.ListN.{length};
 ghost use Rattle.basics.specs.Answers.{Promise};
 ghost use Rattle.search.specs.Search.{WasRead, wrote, searchJob, searchJobOut, ifRead, search as searchOf, searchOut, searchedSays as saysOf};
 ghost use Rattle.search.specs.declared.Searched.the-variants.{Refused};
+use crate::Arrival;
 use crate::Progress;
 use crate::Searched;
 use crate::Walked;
+use crate::walking::arrive;
 use crate::walking::walk;
 use basics::Answer;
 use placing::boards::board_of;
@@ -51,16 +53,43 @@ fn search_job(job: Job, budget: u32, out: &mut [u8]) -> Searched
         held: false,
         cost: 0,
     };
+    let arrival = arrive(begin, 0, budget);
+    let Arrival::Open(first) = arrival else {
+        return Searched::Spent { visits: budget };
+    };
     let walked = walk(
-        n, k, board.t, board.e, board.wire, board.clock, &board.from, &board.to, &board.types, &board.costs,
-        &board.times, &board.delays, &board.spacings, &board.lasts, &board.near, 0, 0, &mut starts, &mut insts,
-        &mut lows, &mut best_starts, &mut best_insts, begin, budget,
+        n,
+        k,
+        board.t,
+        board.e,
+        board.wire,
+        board.clock,
+        &board.from,
+        &board.to,
+        &board.types,
+        &board.costs,
+        &board.times,
+        &board.delays,
+        &board.spacings,
+        &board.lasts,
+        &board.near,
+        0,
+        0,
+        &mut starts,
+        &mut insts,
+        &mut lows,
+        &mut best_starts,
+        &mut best_insts,
+        first,
+        budget,
     );
     let Walked::Done(done) = walked else {
         return Searched::Spent { visits: budget };
     };
     if !done.held {
-        return Searched::Nothing { visits: done.visits };
+        return Searched::Nothing {
+            visits: done.visits,
+        };
     }
     let selection = smallest(n, k, &board.types, &best_starts, &best_insts);
     let plan = Plan {

@@ -40,23 +40,23 @@ unfolding boardOf tablesOf
 board-is j k types near lasts tables p q r s l =
     let m : lasts ≡ lastTable (j .t) (tablesOf j .times) (tablesOf j .delays) = l ∙ ap (λ (x : Tables). lastTable (j .t) (x .times) (x .delays)) s in
     λ i.
-      record {
-        n = j .n;
-        k = p i;
-        t = j .t;
-        e = j .e;
-        wire = j .wire;
-        clock = j .clock;
-        from = j .from;
-        to = j .to;
-        types = q i;
-        costs = j .costs;
-        times = s i .times;
-        delays = s i .delays;
-        spacings = s i .spacings;
-        lasts = m i;
-        near = r i;
-      }
+    record {
+      n = j .n;
+      k = p i;
+      t = j .t;
+      e = j .e;
+      wire = j .wire;
+      clock = j .clock;
+      from = j .from;
+      to = j .to;
+      types = q i;
+      costs = j .costs;
+      times = s i .times;
+      delays = s i .delays;
+      spacings = s i .spacings;
+      lasts = m i;
+      near = r i;
+    }
 
 inst-count-requires : tie.Need-inst-count-requires
 inst-count-requires c κs = search needs

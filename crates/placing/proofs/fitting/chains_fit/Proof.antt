@@ -27,7 +27,7 @@ array-write-row-times c = search needs
 
 slice-aggregate-chains-ok : tie.Need-slice-aggregate-chains-ok
 slice-aggregate-chains-ok c =
-    sym (length-set (c .before .before .before .before .before .before .before .args .starts .now) (c .before .before .before .before .before .before .before .args .op) (c .before .before .before .before .before .before .before .args .s) ∙ c .before .before .before .before .before .before .before .pre .1)
+    sym (length-set (c .before .before .before .before .before .before .args .starts .now) (c .before .before .before .before .before .before .args .op) (c .before .before .before .before .before .before .args .s) ∙ c .before .before .before .before .before .before .pre .1)
 
 slice-aggregate-chains-ok-2 : tie.Need-slice-aggregate-chains-ok-2
 slice-aggregate-chains-ok-2 c = search needs

@@ -29,8 +29,8 @@ near-at-requires c κs = search needs
 
 loop-holds : tie.Need-loop-holds Inv-loop μ-loop
 loop-holds c =
-    let w = at-start _ _ (c .before .before .before .before .before .pre .1) _ (c .near-at .ensures) in
-    (w .0, w .1, ends-start _ _ (c .before .before .before .before .before .pre .1) _ _ _ _ (c .near-at .ensures))
+    let w = at-start _ _ (c .before .before .pre .1) _ (c .near-at .ensures) in
+    (w .0, w .1, ends-start _ _ (c .before .before .pre .1) _ _ _ _ (c .near-at .ensures))
 
 end-of-requires : tie.Need-end-of-requires Inv-loop μ-loop
 end-of-requires c κs = search needs
@@ -46,17 +46,17 @@ near-at-requires-2 c κs = search needs
 
 loop-less : tie.Need-loop-less Inv-loop μ-loop
 loop-less c =
-    let w = at-step _ _ (c .before .before .before .before .before .before .before .before .before .before .pre .1) _ _ (omega arith) (c .near-at2 .ensures) in omega arith
+    let w = at-step _ _ (c .before .before .before .before .before .before .before .pre .1) _ _ (omega arith) (c .near-at2 .ensures) in omega arith
 
 loop-again : tie.Need-loop-again Inv-loop μ-loop
 loop-again c =
     let v = c .before .before .before .before .loop .inv in
-    let w = at-step _ _ (c .before .before .before .before .before .before .before .before .before .before .pre .1) _ _ (omega arith) (c .near-at2 .ensures) in
-    (w .1, w .2, ends-step _ _ (c .before .before .before .before .before .before .before .before .before .before .pre .1) _ _ _ _ _ _ _ _ (c .before .before .before .loop-test .taken) (omega arith) (v .1) (v .2) (c .before .before .end-of .ensures) (c .before .later .ensures) (c .near-at2 .ensures))
+    let w = at-step _ _ (c .before .before .before .before .before .before .before .pre .1) _ _ (omega arith) (c .near-at2 .ensures) in
+    (w .1, w .2, ends-step _ _ (c .before .before .before .before .before .before .before .pre .1) _ _ _ _ _ _ _ _ (c .before .before .before .loop-test .taken) (omega arith) (v .1) (v .2) (c .before .before .end-of .ensures) (c .before .later .ensures) (c .near-at2 .ensures))
 
 returns : tie.Need-returns Inv-loop μ-loop
 returns c =
-    ends-done _ _ (c .before .before .before .before .before .before .before .pre .1) _ _ _ _ _ (c .loop-test .left) (c .before .loop .inv .2)
+    ends-done _ _ (c .before .before .before .before .pre .1) _ _ _ _ _ (c .loop-test .left) (c .before .loop .inv .2)
 
 pub first-start-spec : {M : Type 1} → statement M
 first-start-spec =

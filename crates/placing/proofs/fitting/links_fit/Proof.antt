@@ -33,8 +33,8 @@ near-at-requires c κs = search needs
 
 loop-holds : tie.Need-loop-holds Inv-loop μ-loop
 loop-holds c =
-    let w = at-start _ _ (c .before .before .before .before .before .before .pre .2) _ (c .near-at .ensures) in
-    (w .0, w .1, links-start _ _ (c .before .before .before .before .before .before .pre .2) _ _ _ _ _ _ _ _ _ _ (c .near-at .ensures))
+    let w = at-start _ _ (c .before .before .before .pre .2) _ (c .near-at .ensures) in
+    (w .0, w .1, links-start _ _ (c .before .before .before .pre .2) _ _ _ _ _ _ _ _ _ _ (c .near-at .ensures))
 
 in-turn-requires : tie.Need-in-turn-requires Inv-loop μ-loop
 in-turn-requires c κs = search needs
@@ -45,7 +45,7 @@ pair-ok-requires c κs = search needs
 returns : tie.Need-returns Inv-loop μ-loop
 returns c =
     let v = c .before .before .before .before .loop .inv in
-    links-fail _ _ (c .before .before .before .before .before .before .before .before .before .before .before .pre .2) _ _ _ _ _ _ _ _ _ _ _ (c .before .before .before .loop-test .taken) (v .1) (rw (← c .before .before .in-turn .ensures, ← c .before .pair-ok .ensures) (not-true _ (c .if1 .taken)))
+    links-fail _ _ (c .before .before .before .before .before .before .before .before .pre .2) _ _ _ _ _ _ _ _ _ _ _ (c .before .before .before .loop-test .taken) (v .1) (rw (← c .before .before .in-turn .ensures, ← c .before .pair-ok .ensures) (not-true _ (c .if1 .taken)))
 
 add-near-at : tie.Need-add-near-at Inv-loop μ-loop
 add-near-at c = search needs
@@ -55,17 +55,17 @@ near-at-requires-2 c κs = search needs
 
 loop-less : tie.Need-loop-less Inv-loop μ-loop
 loop-less c =
-    let w = at-step _ _ (c .before .before .before .before .before .before .before .before .before .before .before .before .pre .2) _ _ (omega arith) (c .near-at2 .ensures) in omega arith
+    let w = at-step _ _ (c .before .before .before .before .before .before .before .before .before .pre .2) _ _ (omega arith) (c .near-at2 .ensures) in omega arith
 
 loop-again : tie.Need-loop-again Inv-loop μ-loop
 loop-again c =
     let v = c .before .before .before .before .before .loop .inv in
-    let w = at-step _ _ (c .before .before .before .before .before .before .before .before .before .before .before .before .pre .2) _ _ (omega arith) (c .near-at2 .ensures) in
-    (w .1, w .2, links-step _ _ (c .before .before .before .before .before .before .before .before .before .before .before .before .pre .2) _ _ _ _ _ _ _ _ _ _ _ (omega arith) (v .2) (v .1) (rw (← c .before .before .before .in-turn .ensures, ← c .before .before .pair-ok .ensures) (not-false _ (c .before .if1 .left))) (c .near-at2 .ensures))
+    let w = at-step _ _ (c .before .before .before .before .before .before .before .before .before .pre .2) _ _ (omega arith) (c .near-at2 .ensures) in
+    (w .1, w .2, links-step _ _ (c .before .before .before .before .before .before .before .before .before .pre .2) _ _ _ _ _ _ _ _ _ _ _ (omega arith) (v .2) (v .1) (rw (← c .before .before .before .in-turn .ensures, ← c .before .before .pair-ok .ensures) (not-false _ (c .before .if1 .left))) (c .near-at2 .ensures))
 
 returns-2 : tie.Need-returns-2 Inv-loop μ-loop
 returns-2 c =
-    links-done _ _ (c .before .before .before .before .before .before .before .before .pre .2) _ _ _ _ _ _ _ _ _ _ _ (c .loop-test .left) (c .before .loop .inv .2)
+    links-done _ _ (c .before .before .before .before .before .pre .2) _ _ _ _ _ _ _ _ _ _ _ (c .loop-test .left) (c .before .loop .inv .2)
 
 pub links-fit-spec : {M : Type 1} → statement M
 links-fit-spec =

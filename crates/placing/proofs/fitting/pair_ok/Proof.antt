@@ -1,26 +1,32 @@
 -- The start decides whether the run is asked.
-use Rattle.basics.specs.Tables.{cell}
 use Rattle.placing.proofs.FitSteps.{pair-in, pair-out}
 use Rattle.placing.specs.Bound.{taken}
 use borrow.Author.Needs.{needs}
+use mathlib.Core.Path.{refl}
 use Rattle.placing.proofs.fitting.pair_ok.Statement.{statement}
 use Rattle.placing.proofs.fitting.pair_ok.Tie as tie
 use Rattle.placing.proofs.fitting.pair_ok.Reads as reads
 use Rattle.placing.proofs.fitting.pair_ok.Lts as lts
-use Rattle.basics.proofs.cell.Reads as cell-reads
 use Rattle.placing.proofs.fitting.unit_at.Reads as unit-at-reads
+use Rattle.placing.proofs.fitting.wide.Reads as wide-reads
 
-cell-requires : tie.Need-cell-requires
-cell-requires c κs = search needs
+mul-if1 : tie.Need-mul-if1
+mul-if1 c = search needs
+
+element-copy-out-if1 : tie.Need-element-copy-out-if1
+element-copy-out-if1 c = search needs
 
 returns : tie.Need-returns
-returns c = pair-out _ _ _ _ _ _ _ _ (c .before .cell .ensures .0) (c .if1 .taken)
+returns c = pair-out _ _ _ _ _ _ _ _ refl (c .if1 .taken)
 
-cell-requires-2 : tie.Need-cell-requires-2
-cell-requires-2 c κs = search needs
+mul-wide : tie.Need-mul-wide
+mul-wide c = search needs
 
-cast-unit-at : tie.Need-cast-unit-at
-cast-unit-at c = search needs
+element-copy-out-wide : tie.Need-element-copy-out-wide
+element-copy-out-wide c = search needs
+
+wide-requires : tie.Need-wide-requires
+wide-requires c κs = search needs
 
 unit-at-requires : tie.Need-unit-at-requires
 unit-at-requires c κs = search needs
@@ -36,16 +42,18 @@ add-result-2 c = search needs
 
 returns-2 : tie.Need-returns-2
 returns-2 c =
-    pair-in _ _ _ _ _ _ _ _ (c .before .before .before .cell .ensures .0) (c .before .before .if1 .left) (rw (c .unit-at .ensures .0, c .before .cell2 .ensures .0))
+    pair-in _ _ _ _ _ _ _ _ refl (c .before .before .before .if1 .left) (rw (c .unit-at .ensures .0, c .before .wide .ensures .0))
 
 pub pair-ok-spec : {M : Type 1} → statement M
 pair-ok-spec =
     tie.close
     (tie.spec
-    cell-requires
+    mul-if1
+    element-copy-out-if1
     returns
-    cell-requires-2
-    cast-unit-at
+    mul-wide
+    element-copy-out-wide
+    wide-requires
     unit-at-requires
     add-result
     cast-result

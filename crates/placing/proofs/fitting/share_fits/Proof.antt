@@ -1,5 +1,4 @@
 -- The instance decides whether the starts are asked.
-use Rattle.basics.specs.Tables.{cell}
 use Rattle.placing.proofs.FitSteps.{share-in, share-out}
 use Rattle.placing.specs.Bound.{taken}
 use Rattle.rules.specs.Rules.{apart}
@@ -8,21 +7,27 @@ use Rattle.placing.proofs.fitting.share_fits.Statement.{statement}
 use Rattle.placing.proofs.fitting.share_fits.Tie as tie
 use Rattle.placing.proofs.fitting.share_fits.Reads as reads
 use Rattle.placing.proofs.fitting.share_fits.Lts as lts
-use Rattle.basics.proofs.cell.Reads as cell-reads
 use Rattle.placing.proofs.fitting.unit_at.Reads as unit-at-reads
+use Rattle.placing.proofs.fitting.wide.Reads as wide-reads
 use Rattle.rules.proofs.resource.apart.Reads as apart-reads
 
-cell-requires : tie.Need-cell-requires
-cell-requires c κs = search needs
+mul-wide : tie.Need-mul-wide
+mul-wide c = search needs
 
-cast-if1 : tie.Need-cast-if1
-cast-if1 c = search needs
+element-copy-out-wide : tie.Need-element-copy-out-wide
+element-copy-out-wide c = search needs
+
+wide-requires : tie.Need-wide-requires
+wide-requires c κs = search needs
 
 returns : tie.Need-returns
-returns c = share-out _ _ _ _ _ _ _ (c .before .cell .ensures .0) (c .if1 .taken)
+returns c = share-out _ _ _ _ _ _ _ (c .before .wide .ensures .0) (c .if1 .taken)
 
-cell-requires-2 : tie.Need-cell-requires-2
-cell-requires-2 c κs = search needs
+mul-start : tie.Need-mul-start
+mul-start c = search needs
+
+element-copy-out-start : tie.Need-element-copy-out-start
+element-copy-out-start c = search needs
 
 apart-requires : tie.Need-apart-requires
 apart-requires c κs = search needs
@@ -35,16 +40,18 @@ apart-requires-2 c κs = search needs
 
 returns-2 : tie.Need-returns-2
 returns-2 c =
-    share-in _ _ _ _ _ _ _ (c .before .before .before .before .before .cell .ensures .0) (c .before .before .before .before .if1 .left) (rw (c .apart2 .ensures, c .before .before .apart .ensures, c .before .unit-at .ensures .0, c .before .before .before .cell2 .ensures .0))
+    share-in _ _ _ _ _ _ _ (c .before .before .before .before .before .wide .ensures .0) (c .before .before .before .before .if1 .left) (rw (c .apart2 .ensures, c .before .before .apart .ensures, c .before .unit-at .ensures .0))
 
 pub share-fits-spec : {M : Type 1} → statement M
 share-fits-spec =
     tie.close
     (tie.spec
-    cell-requires
-    cast-if1
+    mul-wide
+    element-copy-out-wide
+    wide-requires
     returns
-    cell-requires-2
+    mul-start
+    element-copy-out-start
     apart-requires
     unit-at-requires
     apart-requires-2

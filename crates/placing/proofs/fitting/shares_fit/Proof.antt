@@ -48,7 +48,7 @@ loop-again c =
 returns-2 : tie.Need-returns-2 Inv-loop μ-loop
 unfolding sharesFit
 returns-2 c =
-    let e : c .before .loop .o ≡ c .before .before .before .before .before .args .reach = omega arith in sym (rw e at (c .before .loop .inv .1))
+    let e : c .before .loop .o ≡ c .before .before .before .args .reach = omega arith in sym (rw e at (c .before .loop .inv .1))
 
 pub shares-fit-spec : {M : Type 1} → statement M
 shares-fit-spec =

@@ -1,7 +1,7 @@
 -- Cells below o are filled.
 use Prim.Native.Nat.{_-_, _≤_}
 use Rattle.basics.proofs.TableLaws.{filled-more}
-use Rattle.basics.specs.Tables.{cell, cells, filled}
+use Rattle.basics.specs.Tables.{cells, filled}
 use Rattle.placing.specs.Board.{unit}
 use Rattle.rules.specs.Model.{rowAt}
 use Rattle.sheets.specs.Limits.{opCells}
@@ -12,8 +12,8 @@ use Rattle.placing.proofs.fitting.times_in.Statement.{statement}
 use Rattle.placing.proofs.fitting.times_in.Tie as tie
 use Rattle.placing.proofs.fitting.times_in.Reads as reads
 use Rattle.placing.proofs.fitting.times_in.Lts as lts
-use Rattle.basics.proofs.cell.Reads as cell-reads
 use Rattle.placing.proofs.fitting.unit_at.Reads as unit-at-reads
+use Rattle.placing.proofs.fitting.wide.Reads as wide-reads
 
 abbrev Inv-loop : tie.InvT-loop
 Inv-loop times insts row-times₀ o₀ row-times o = (o ≤ opCells) × (row-times ≡ cells (rowAt (unit times) insts) o opCells)
@@ -25,11 +25,14 @@ loop-holds : tie.Need-loop-holds Inv-loop μ-loop
 unfolding filled
 loop-holds c = search needs
 
-cell-requires : tie.Need-cell-requires Inv-loop μ-loop
-cell-requires c κs = search needs
+mul-wide : tie.Need-mul-wide Inv-loop μ-loop
+mul-wide c = search needs
 
-cast-unit-at : tie.Need-cast-unit-at Inv-loop μ-loop
-cast-unit-at c = search needs
+element-copy-out-wide : tie.Need-element-copy-out-wide Inv-loop μ-loop
+element-copy-out-wide c = search needs
+
+wide-requires : tie.Need-wide-requires Inv-loop μ-loop
+wide-requires c κs = search needs
 
 unit-at-requires : tie.Need-unit-at-requires Inv-loop μ-loop
 unit-at-requires c κs = search needs
@@ -48,7 +51,7 @@ loop-less c = search needs
 
 loop-again : tie.Need-loop-again Inv-loop μ-loop
 loop-again c =
-    (omega arith, rw (filled-more, ← c .before .before .before .loop .inv .1, c .unit-at .ensures .0, c .before .cell .ensures .0))
+    (omega arith, rw (filled-more, ← c .before .before .before .before .loop .inv .1, c .unit-at .ensures .0, c .before .wide .ensures .0))
 
 returns : tie.Need-returns Inv-loop μ-loop
 returns c = let e : c .before .loop .o ≡ opCells = omega arith in rw e at (c .before .loop .inv .1)
@@ -60,8 +63,9 @@ times-in-spec =
     Inv-loop
     μ-loop
     loop-holds
-    cell-requires
-    cast-unit-at
+    mul-wide
+    element-copy-out-wide
+    wide-requires
     unit-at-requires
     mul-row-times
     array-write-row-times
