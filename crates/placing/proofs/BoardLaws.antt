@@ -173,31 +173,31 @@ last-rule k t i time s delay l h =
 -- ---- the board
 
 module _ (b : Board) (of : OfJob b) where
-  sound : JobSound (of .job)
-  sound = job-sound (of .sheet) (of .job) (of .read)
+  pub board-sound : JobSound (of .job)
+  board-sound = job-sound (of .sheet) (of .job) (of .read)
 
   pub few-ops : b .n ≤ opCells
   unfolding boardOf
-  few-ops = rw (of .is) (sound .counts .ops)
+  few-ops = rw (of .is) (board-sound .counts .ops)
 
   pub few-insts : b .k ≤ instCells
   unfolding boardOf
-  few-insts = rw (of .is) (sound .insts)
+  few-insts = rw (of .is) (board-sound .insts)
 
   pub few-steps : b .t ≤ maxSteps
   unfolding boardOf
-  few-steps = rw (of .is) (sound .steps)
+  few-steps = rw (of .is) (board-sound .steps)
 
   pub type-small : (i : ℕ) → i < b .k → cell (b .types) i < typeCells
   unfolding boardOf
   type-small i l =
       let q : i < sumTo (cell (of .job .copies)) (of .job .m) = rw (of .is) at l in
-      let t = type-cell (of .job .copies) (of .job .m) i (omega (arith, sound .insts)) in
-      rw (of .is) (omega (arith, t, type-below (of .job .copies) (of .job .m) i q, sound .counts .types))
+      let t = type-cell (of .job .copies) (of .job .m) i (omega (arith, board-sound .insts)) in
+      rw (of .is) (omega (arith, t, type-below (of .job .copies) (of .job .m) i q, board-sound .counts .types))
 
   pub link-ends : (l : ℕ) → l < b .e → (cell (b .from) l < cell (b .to) l) × (cell (b .to) l < b .n)
   unfolding boardOf
-  link-ends l q = rw (of .is) (sound .links l (rw (of .is) at q))
+  link-ends l q = rw (of .is) (board-sound .links l (rw (of .is) at q))
 
   -- ---- near
 
@@ -279,7 +279,7 @@ module _ (b : Board) (of : OfJob b) where
   pub runs-rule : (starts times : List ℕ)
       → (chainsOk (b .from) (b .to) (b .e) (b .wire) (b .clock) starts times ≡ true) ↔ RunsFit (of .job) (cell starts) (cell times)
   unfolding boardOf
-  runs-rule starts times = rw (of .is) (chain-rule (of .job) sound starts times)
+  runs-rule starts times = rw (of .is) (chain-rule (of .job) board-sound starts times)
 
   -- links, wire and clock are the job's
   pub link-joins : (x y : ℕ) → Link (of .job) x y → Joining (b .from) (b .to) (b .e) x y
@@ -287,7 +287,7 @@ module _ (b : Board) (of : OfJob b) where
   link-joins x y n = rw (of .is) (record { number = n .number; below = n .below; ends = inl (n .leaves, n .enters) })
 
   pub link-rises : (x y : ℕ) → Link (of .job) x y → x < y
-  link-rises x y n = omega (arith, sound .links (n .number) (n .below) .0, n .leaves, n .enters)
+  link-rises x y n = omega (arith, board-sound .links (n .number) (n .below) .0, n .leaves, n .enters)
 
   pub link-of : (l : ℕ) → l < b .e → Link (of .job) (cell (b .from) l) (cell (b .to) l)
   unfolding boardOf

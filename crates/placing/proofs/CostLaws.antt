@@ -13,52 +13,17 @@ use lib.ListN.{length, replicate}
 use lib.Seq.{getD-set-same, getD-set-other, set-getD}
 use Rattle.basics.specs.Counting.{sumTo, only}
 use Rattle.basics.specs.Tables.{cell}
-use Rattle.basics.proofs.CountLaws.{and-both, both-and, same-test, Some, anyTo-some, some-anyTo, sumTo-below, sumTo-most, only-small}
-use Rattle.basics.proofs.TableLaws.{cell-cells, cell-replicate}
+use Rattle.basics.proofs.CountLaws.{and-both, both-and, same-test, Some, anyTo-some, some-anyTo, sumTo-below, sumTo-most}
+use Rattle.basics.proofs.TableLaws.{cell-replicate}
 use Rattle.sheets.specs.Limits.{opCells, typeCells, instCells}
-use Rattle.sheets.proofs.JobRoundTrip.{job-sound}
-use Rattle.sheets.proofs.RecordLaws.{JobSound}
-use Rattle.rules.specs.Model.{instCount, behind, typeAt, typesIn, typesOf}
 use Rattle.rules.specs.Rules.{placed}
 use Rattle.rules.specs.Selection.{costAt, selectionCost}
 use Rattle.placing.specs.declared.Board.{Board}
-use Rattle.placing.specs.Board.{boardOf, OfJob}
+use Rattle.placing.specs.Board.{OfJob}
 use Rattle.placing.specs.Placing.{Placing, wants, needed, cost, neededIn, wantsIn}
 use Rattle.placing.specs.Options.{none, put}
 use Rattle.placing.specs.Costing.{reached, lowered, costIf, costWith, Tracks}
-
--- ---- a board of a job: how many operations, instances and types
-
-pub board-sound : (b : Board) (j : OfJob b) → JobSound (j .job)
-board-sound b j = job-sound (j .sheet) (j .job) (j .read)
-
-pub few-ops : (b : Board) → OfJob b → b .n ≤ opCells
-unfolding boardOf
-few-ops b j =
-    let e : b .n ≡ j .job .n = ap (λ (x : Board). x .n) (j .is) in
-    omega (arith, board-sound b j .counts .ops)
-
-pub few-insts : (b : Board) → OfJob b → b .k ≤ instCells
-unfolding boardOf
-few-insts b j =
-    let e : b .k ≡ instCount (j .job) = ap (λ (x : Board). x .k) (j .is) in
-    omega (arith, board-sound b j .insts)
-
-type-below : (copies : List ℕ) (m i : ℕ) → i < sumTo (cell copies) m → typeAt copies m i < m
-unfolding typeAt sumTo behind only
-type-below copies zero i l = absurd (omega arith)
-type-below copies (suc m) i l =
-    let last : behind copies i m ≡ 0 = rw (lt-leb (sumTo (cell copies) (suc m)) i l) in
-    omega (arith, sumTo-most (behind copies i) 1 m (λ y q. only-small (leb (sumTo (cell copies) (suc y)) i) 1))
-
-pub few-types : (b : Board) → OfJob b → (i : ℕ) → i < b .k → cell (b .types) i < typeCells
-unfolding boardOf typesIn
-few-types b j i l =
-    let e : b .k ≡ instCount (j .job) = ap (λ (x : Board). x .k) (j .is) in
-    let t : b .types ≡ typesOf (j .job) = ap (λ (x : Board). x .types) (j .is) in
-    let f : ℕ → ℕ = typeAt (j .job .copies) (j .job .m) in
-    let c : cell (typesOf (j .job)) i ≡ f i = cell-cells f instCells instCells i (omega (arith, few-insts b j)) (omega arith) in
-    rw (t, c) (omega (arith, type-below (j .job .copies) (j .job .m) i (omega arith), board-sound b j .counts .types))
+use Rattle.placing.proofs.BoardLaws.{few-ops, few-insts, type-small}
 
 -- ---- costs compared
 
@@ -133,7 +98,7 @@ tracks-none b j =
     sumTo-most _ 0 (b .k) (λ i l. rw (none-needed b i) (omega arith)) in
     record {
       lowest = λ i l.
-          let e = cell-alike typeCells instCells (cell (b .types) i) (few-types b j i l) in
+          let e = cell-alike typeCells instCells (cell (b .types) i) (type-small b j i l) in
           none-needed b i ∙ sym (rw e (lt-leb instCells i (omega (arith, few-insts b j))));
       costs = omega (arith, free);
     }
@@ -222,7 +187,7 @@ module _ (b : Board) (j : OfJob b) (p : Placing) (starts : length (p .starts) �
   next = put p op (record { start = s; inst = i })
 
   typed : cell (b .types) i < length lows
-  typed = omega (arith, few-types b j i below)
+  typed = omega (arith, type-small b j i below)
 
   next-lowest : (x : ℕ) → x < b .k → needed b next x ≡ reached (b .types) then x
   next-lowest x l =

@@ -5,5 +5,5 @@ pub mod CostLaws
 pub mod PartLaws
 pub mod SelectionLaws
 pub mod OptionLaws
-pub mod FitSteps
 pub mod FitLaws
+pub mod FitSteps

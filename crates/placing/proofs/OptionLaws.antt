@@ -19,7 +19,7 @@ use Rattle.placing.specs.Placing.{Placing, live, cost, Part}
 use Rattle.placing.specs.Options.{Option, optionsAt, optionsFrom, options, none, put, keepIf, liveOnes, children}
 use Rattle.placing.proofs.BoundLaws.{all-map, all-gather}
 use Rattle.placing.proofs.ListLaws.{Among, InOrder, all-among, among-gather, ordered-with, ordered-gather}
-use Rattle.placing.proofs.CostLaws.{few-ops}
+use Rattle.placing.proofs.BoardLaws.{few-ops}
 use Rattle.placing.proofs.PartLaws.{part-live, part-costs, put-part, none-live}
 
 -- ---- options in their order: start, then instance

@@ -25,7 +25,8 @@ use Rattle.placing.specs.declared.Board.{Board}
 use Rattle.placing.specs.Board.{unit, boardOf, OfJob}
 use Rattle.placing.specs.Placing.{Placing, rowOk, live, wants, needed, cost, Part, neededIn}
 use Rattle.placing.specs.Options.{Option, none, put}
-use Rattle.placing.proofs.CostLaws.{board-sound, cost-rises, wants-says, says-wants, fails, none-unplaced}
+use Rattle.placing.proofs.BoardLaws.{board-sound}
+use Rattle.placing.proofs.CostLaws.{cost-rises, wants-says, says-wants, fails, none-unplaced}
 
 -- ---- the four rules, and live
 

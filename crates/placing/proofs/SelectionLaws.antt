@@ -18,7 +18,8 @@ use Rattle.rules.specs.Selection.{selected, selectionCost}
 use Rattle.placing.specs.declared.Board.{Board}
 use Rattle.placing.specs.Board.{OfJob}
 use Rattle.placing.specs.Placing.{Placing, wants, needed, cost, neededAt, smallest, neededIn, smallestIn}
-use Rattle.placing.proofs.CostLaws.{few-insts, cost-cong, cost-rises, wants-says, says-wants}
+use Rattle.placing.proofs.BoardLaws.{few-insts}
+use Rattle.placing.proofs.CostLaws.{cost-cong, cost-rises, wants-says, says-wants}
 
 -- ---- a cell of it
 

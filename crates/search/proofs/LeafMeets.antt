@@ -31,7 +31,7 @@ use Rattle.rules.proofs.ModelLaws.{unit-cell}
 use Rattle.rules.proofs.RuleLaws.{RowOk, none-row, row-none, says-order}
 use Rattle.placing.specs.Board.{unit, boardOf, OfJob}
 use Rattle.placing.specs.Placing.{Placing, rowOk, live, cost, smallest}
-use Rattle.placing.proofs.CostLaws.{few-insts}
+use Rattle.placing.proofs.BoardLaws.{few-insts}
 use Rattle.placing.proofs.ListLaws.{Among}
 use Rattle.placing.proofs.OptionLaws.{PlacedTo, leavesOf, leaf-placed, placed-leaf}
 use Rattle.placing.proofs.SelectionLaws.{smallest-holds, smallest-ordered, smallest-costs, cost-of-smallest}

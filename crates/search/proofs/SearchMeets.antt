@@ -27,7 +27,7 @@ use Rattle.placing.specs.Bound.{All, First}
 use Rattle.placing.specs.Placing.{Placing, cost, needed, neededAt, smallest, smallestIn}
 use Rattle.placing.specs.Options.{none, children}
 use Rattle.placing.proofs.BoundLaws.{walk-finds, nothing-held, some-first, first-least}
-use Rattle.placing.proofs.CostLaws.{few-ops, few-insts}
+use Rattle.placing.proofs.BoardLaws.{few-ops, few-insts}
 use Rattle.placing.proofs.ListLaws.{Among, InOrder, all-among, among-right, among-either, ordered-behind}
 use Rattle.placing.proofs.OptionLaws.{PlacedTo, RowsBefore, Met, leavesOf, none-met, grows, leaf-placed, leaves-ordered}
 use Rattle.placing.proofs.SelectionLaws.{smallest-cell, smallest-least}

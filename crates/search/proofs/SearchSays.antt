@@ -1,5 +1,5 @@
--- What each answer of the search on bytes means: `spent-exactly`, `none-exactly`, `found-says` with `says-found`, and
--- `refused-exactly`. There is one plan to be found (`one-plan`).
+-- What each answer of the search on bytes means: `spent-exactly`, `none-exactly`, `found-exactly` and `refused-exactly`. There is
+-- one plan to be found (`one-plan`).
 use Prim.Native.Nat.{ℕ, zero, suc, _+_, _/_, _≤_, _<_}
 use mathlib.Core.Path.{_≡_, refl, sym, ap, subst, _∙_}
 use mathlib.Core.Bool.{Bool, true, false}
@@ -303,7 +303,7 @@ module _ (job : List ℕ) (budget : ℕ) (before : List ℕ) (c v size : ℕ) wh
   unfolding searchOut outIfRead searchJobOut outIf planOut writePlan written ifRoom output
   output-found j r k h l = rw (r, le-leb (walked (boardOf j) .visits) budget k, h, found-sound job j r h, le-leb (sizeIn j) (length before) l)
 
-  pub found-says : search job budget (length before) ≡ Found c v size → Finds job budget before (searchOut job budget before) c v size
+  found-says : search job budget (length before) ≡ Found c v size → Finds job budget before (searchOut job budget before) c v size
   found-says e = go (way job budget (length before)) (sym (answers job budget (length before) (way job budget (length before))) ∙ e)
     where
       go : (w : Way job budget (length before)) → answerOf job budget (length before) w ≡ Found c v size
@@ -321,6 +321,7 @@ module _ (job : List ℕ) (budget : ℕ) (before : List ℕ) (c v size : ℕ) wh
             kept = k;
             asPlan = foundIn j;
             plan = subst (λ (x : ℕ). FirstCheapest j (foundIn j) x) ec (search-found job j r h);
+            shape = found-shape job j r h;
             sound = found-sound job j r h;
             fits = rw (← es) l;
             bytes = rw (← es) (output-found j r k h l);
@@ -329,15 +330,19 @@ module _ (job : List ℕ) (budget : ℕ) (before : List ℕ) (c v size : ℕ) wh
           }
       go (short j r k h l) e = absurd (let z : _≡_ {A = ℕ} 0 1 = cc in omega arith)
 
-  -- and the converse, of a plan whose tables have their sizes
-  pub says-found : (after : List ℕ) (f : Finds job budget before after c v size) → PlanShape (f .asPlan)
+  says-found : (after : List ℕ) → Finds job budget before after c v size
       → (search job budget (length before) ≡ Found c v size) × (after ≡ searchOut job budget before)
-  says-found after f t =
+  says-found after f =
       let j = f .asJob in
       let r = f .jobRead in
-      let g = held-plan job j r (f .asPlan) c (f .plan) t (f .sound) in
+      let g = held-plan job j r (f .asPlan) c (f .plan) (f .shape) (f .sound) in
       let es : sizeIn j ≡ size = sym (found-size job j r (g .0)) ∙ ap (λ (p : Plan). length (planSheet p)) (sym (g .1)) ∙ f .long in
       let l : sizeIn j ≤ length before = rw es (f .fits) in (
         answers job budget (length before) (fits j r (f .kept) (g .0) l) ∙ rw (← g .2, ← f .given, es),
         f .bytes ∙ rw (g .1, ← es) (sym (output-found j r (f .kept) (g .0) l)),
       )
+
+  -- the answer and the output's bytes
+  pub found-exactly : (after : List ℕ)
+      → ((search job budget (length before) ≡ Found c v size) × (after ≡ searchOut job budget before)) ↔ Finds job budget before after c v size
+  found-exactly after = ((λ w. rw (w .1) (found-says (w .0))), says-found after)

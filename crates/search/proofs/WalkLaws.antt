@@ -8,18 +8,16 @@ use native.Mathlib.Nat.{lt-of-le-of-lt}
 use native.Mathlib.Omega.{arith}
 use borrow.Author.Tests.{leb-true, leb-false, ltb-true, le-leb, lt-leb}
 use lib.Dec.{leb, ltb}
-use lib.ListN.{length, set, length-set}
+use lib.ListN.{set, length-set}
 use lib.Seq.{set-set, set-getD, getD-set-other}
 use Rattle.basics.specs.Tables.{cell}
-use Rattle.sheets.specs.Limits.{opCells, instCells, typeCells}
-use Rattle.placing.specs.Bound.{State, Best, shut, tick, each, walk}
+use Rattle.placing.specs.Bound.{State, shut, tick, each}
 use Rattle.placing.specs.Board.{unit}
-use Rattle.placing.specs.Costing.{lowered, costWith, Tracks}
+use Rattle.placing.specs.Costing.{costWith}
 use Rattle.placing.specs.Fitting.{fits, firstStart}
 use Rattle.placing.specs.Options.{Option, optionsAt, optionsFrom, options, put, keepIf, liveOnes, children}
 use Rattle.placing.specs.Placing.{Placing, live, cost}
 use Rattle.placing.specs.declared.Board.{Board}
-use Rattle.placing.proofs.BoardLaws.{few-ops}
 use Rattle.placing.proofs.BoundLaws.{visits-walk, visits-each, walk-shut, walk-leaf, walk-open}
 use Rattle.placing.proofs.CostLaws.{tracks-put}
 use Rattle.placing.proofs.FitLaws.{fits-live, early-dead, settled-links}

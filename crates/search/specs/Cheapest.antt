@@ -5,9 +5,8 @@ use mathlib.Core.Path.{_≡_}
 use mathlib.Core.List.{List, _++_}
 use mathlib.Core.Logic.{_⊎_}
 use lib.ListN.{length, drop}
-use Rattle.basics.specs.Tables.{cell}
 use Rattle.sheets.specs.JobSheet.{readJob}
-use Rattle.sheets.specs.PlanSheet.{planSheet, planRecordFault}
+use Rattle.sheets.specs.PlanSheet.{PlanShape, planSheet, planRecordFault}
 use Rattle.sheets.specs.declared.Job.{Job}
 use Rattle.sheets.specs.declared.Plan.{Plan}
 use Rattle.sheets.specs.declared.Reading.the-variants.{Read}
@@ -68,6 +67,7 @@ pub record Finds (job : List ℕ) (budget : ℕ) (before after : List ℕ) (cost
   pub kept : walked (boardOf asJob) .visits ≤ budget
   pub asPlan : Plan
   pub plan : FirstCheapest asJob asPlan cost
+  pub shape : PlanShape asPlan
   pub sound : planRecordFault asPlan ≡ 0
   pub fits : size ≤ length before
   pub bytes : after ≡ planSheet asPlan ++ drop size before

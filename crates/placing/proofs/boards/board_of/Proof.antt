@@ -9,13 +9,6 @@ use Rattle.sheets.specs.declared.Job.{Job}
 use Rattle.rules.specs.declared.Tables.{Tables}
 use Rattle.placing.proofs.boards.board_of.Statement.{statement}
 use Rattle.placing.proofs.boards.board_of.Tie as tie
-use Rattle.placing.proofs.boards.board_of.Reads as reads
-use Rattle.placing.proofs.boards.board_of.Lts as lts
-use Rattle.placing.proofs.boards.lasts_in.Reads as lasts-in-reads
-use Rattle.placing.proofs.boards.near_in.Reads as near-in-reads
-use Rattle.rules.proofs.model.inst_count.Reads as inst-count-reads
-use Rattle.rules.proofs.model.tables_of.Reads as tables-of-reads
-use Rattle.rules.proofs.model.types_in.Reads as types-in-reads
 
 board-is : (j : Job) (k : ℕ) (types near lasts : List ℕ) (tables : Tables) → k ≡ instCount j → types ≡ typesOf j → near ≡ nearTable (j .from) (j .to) (j .e) (j .n)
     → tables ≡ tablesOf j → lasts ≡ lastTable (j .t) (tables .times) (tables .delays)

@@ -7,8 +7,6 @@ use borrow.Author.Needs.{needs}
 use mathlib.Core.Path.{refl}
 use Rattle.placing.proofs.boards.last_start.Statement.{statement}
 use Rattle.placing.proofs.boards.last_start.Tie as tie
-use Rattle.placing.proofs.boards.last_start.Reads as reads
-use Rattle.placing.proofs.boards.last_start.Lts as lts
 
 returns : tie.Need-returns
 unfolding lastStart only

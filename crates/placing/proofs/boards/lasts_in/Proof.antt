@@ -9,10 +9,6 @@ use mathlib.Core.Path.{_≡_}
 use native.Mathlib.Omega.{arith}
 use Rattle.placing.proofs.boards.lasts_in.Statement.{statement}
 use Rattle.placing.proofs.boards.lasts_in.Tie as tie
-use Rattle.placing.proofs.boards.lasts_in.Reads as reads
-use Rattle.placing.proofs.boards.lasts_in.Lts as lts
-use Rattle.basics.proofs.cell.Reads as cell-reads
-use Rattle.placing.proofs.boards.last_start.Reads as last-start-reads
 
 abbrev Inv-loop : tie.InvT-loop
 Inv-loop t times delays lasts₀ c₀ lasts c = (c ≤ unitCells) × (lasts ≡ cells (lastAt t times delays) c unitCells)

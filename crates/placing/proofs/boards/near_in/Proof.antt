@@ -9,9 +9,6 @@ use mathlib.Core.Path.{_≡_}
 use native.Mathlib.Omega.{arith}
 use Rattle.placing.proofs.boards.near_in.Statement.{statement}
 use Rattle.placing.proofs.boards.near_in.Tie as tie
-use Rattle.placing.proofs.boards.near_in.Reads as reads
-use Rattle.placing.proofs.boards.near_in.Lts as lts
-use Rattle.placing.proofs.boards.nearest.Reads as nearest-reads
 
 abbrev Inv-loop : tie.InvT-loop
 Inv-loop from to e n count near₀ c₀ near c = (c ≤ count) × (near ≡ cells (nearAt from to e) c (nearCells * opCells))

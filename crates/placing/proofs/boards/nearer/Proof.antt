@@ -3,8 +3,6 @@ use Rattle.placing.specs.Board.{nearer, nearerIf}
 use Rattle.placing.specs.Bound.{taken}
 use Rattle.placing.proofs.boards.nearer.Statement.{statement}
 use Rattle.placing.proofs.boards.nearer.Tie as tie
-use Rattle.placing.proofs.boards.nearer.Reads as reads
-use Rattle.placing.proofs.boards.nearer.Lts as lts
 
 returns : tie.Need-returns
 unfolding nearer nearerIf

@@ -8,10 +8,6 @@ use native.Mathlib.Numerals.{add-one}
 use native.Mathlib.Omega.{arith}
 use Rattle.placing.proofs.boards.nearest.Statement.{statement}
 use Rattle.placing.proofs.boards.nearest.Tie as tie
-use Rattle.placing.proofs.boards.nearest.Reads as reads
-use Rattle.placing.proofs.boards.nearest.Lts as lts
-use Rattle.basics.proofs.cell.Reads as cell-reads
-use Rattle.placing.proofs.boards.nearer.Reads as nearer-reads
 
 abbrev Inv-loop : tie.InvT-loop
 Inv-loop from to o x e links far₀ l₀ far l = (l ≤ links) × (far ≡ nearest from to o x l)

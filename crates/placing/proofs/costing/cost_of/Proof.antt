@@ -10,11 +10,6 @@ use mathlib.Core.Path.{_≡_}
 use native.Mathlib.Omega.{arith}
 use Rattle.placing.proofs.costing.cost_of.Statement.{statement}
 use Rattle.placing.proofs.costing.cost_of.Tie as tie
-use Rattle.placing.proofs.costing.cost_of.Reads as reads
-use Rattle.placing.proofs.costing.cost_of.Lts as lts
-use Rattle.basics.proofs.cell.Reads as cell-reads
-use Rattle.basics.proofs.only.Reads as only-reads
-use Rattle.placing.proofs.costing.reached.Reads as reached-reads
 
 abbrev Inv-loop : tie.InvT-loop
 Inv-loop types costs lows k sum₀ i₀ sum i = (i ≤ k) × (sum ≤ 2 ^ 16 * i) × (sum ≡ sumTo (costAt costs types (reached types lows)) i)

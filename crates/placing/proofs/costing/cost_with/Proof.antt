@@ -5,9 +5,6 @@ use borrow.Author.Needs.{needs}
 use borrow.Author.Tests.{le-leb, lt-leb}
 use Rattle.placing.proofs.costing.cost_with.Statement.{statement}
 use Rattle.placing.proofs.costing.cost_with.Tie as tie
-use Rattle.placing.proofs.costing.cost_with.Reads as reads
-use Rattle.placing.proofs.costing.cost_with.Lts as lts
-use Rattle.placing.proofs.costing.cost_of.Reads as cost-of-reads
 
 returns : tie.Need-returns
 unfolding costWith costIf

@@ -8,9 +8,6 @@ use mathlib.Core.Path.{_≡_}
 use native.Mathlib.Omega.{arith}
 use Rattle.placing.proofs.costing.needed.Statement.{statement}
 use Rattle.placing.proofs.costing.needed.Tie as tie
-use Rattle.placing.proofs.costing.needed.Reads as reads
-use Rattle.placing.proofs.costing.needed.Lts as lts
-use Rattle.placing.proofs.costing.wants.Reads as wants-reads
 
 abbrev Inv-loop : tie.InvT-loop
 Inv-loop n types starts insts i found₀ o₀ found o = (o ≤ n) × (found ≡ anyTo (wantsIn types starts insts i) o)

@@ -3,9 +3,6 @@ use Rattle.basics.specs.Tables.{cell}
 use borrow.Author.Needs.{needs}
 use Rattle.placing.proofs.costing.reached.Statement.{statement}
 use Rattle.placing.proofs.costing.reached.Tie as tie
-use Rattle.placing.proofs.costing.reached.Reads as reads
-use Rattle.placing.proofs.costing.reached.Lts as lts
-use Rattle.basics.proofs.cell.Reads as cell-reads
 
 cell-requires : tie.Need-cell-requires
 cell-requires c κs = search needs

@@ -11,10 +11,6 @@ use mathlib.Core.Path.{_≡_}
 use native.Mathlib.Omega.{arith}
 use Rattle.placing.proofs.costing.smallest.Statement.{statement}
 use Rattle.placing.proofs.costing.smallest.Tie as tie
-use Rattle.placing.proofs.costing.smallest.Reads as reads
-use Rattle.placing.proofs.costing.smallest.Lts as lts
-use Rattle.basics.proofs.only.Reads as only-reads
-use Rattle.placing.proofs.costing.needed.Reads as needed-reads
 
 abbrev Inv-loop : tie.InvT-loop
 Inv-loop n k types starts insts selection₀ i₀ selection i = (i ≤ k) × (selection ≡ cells (neededAt n types starts insts) i instCells)

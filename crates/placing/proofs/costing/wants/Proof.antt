@@ -4,9 +4,6 @@ use Rattle.placing.specs.Placing.{wantsIn}
 use borrow.Author.Needs.{needs}
 use Rattle.placing.proofs.costing.wants.Statement.{statement}
 use Rattle.placing.proofs.costing.wants.Tie as tie
-use Rattle.placing.proofs.costing.wants.Reads as reads
-use Rattle.placing.proofs.costing.wants.Lts as lts
-use Rattle.basics.proofs.cell.Reads as cell-reads
 
 cell-requires : tie.Need-cell-requires
 cell-requires c κs = search needs

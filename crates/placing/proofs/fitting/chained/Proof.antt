@@ -13,9 +13,6 @@ use mathlib.Core.Path.{_≡_, refl}
 use native.Mathlib.Omega.{arith}
 use Rattle.placing.proofs.fitting.chained.Statement.{statement}
 use Rattle.placing.proofs.fitting.chained.Tie as tie
-use Rattle.placing.proofs.fitting.chained.Reads as reads
-use Rattle.placing.proofs.fitting.chained.Lts as lts
-use Rattle.placing.proofs.fitting.near_at.Reads as near-at-reads
 
 abbrev Inv-loop : tie.InvT-loop
 Inv-loop near starts reach op s o₀ o = (o ≤ opCells) × (linked near op o ≡ true) × (anyTo (chainedAt near starts op s) o ≡ false)

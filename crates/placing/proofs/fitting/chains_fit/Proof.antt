@@ -5,10 +5,6 @@ use lib.ListN.{length-set}
 use mathlib.Core.Path.{_∙_, sym}
 use Rattle.placing.proofs.fitting.chains_fit.Statement.{statement}
 use Rattle.placing.proofs.fitting.chains_fit.Tie as tie
-use Rattle.placing.proofs.fitting.chains_fit.Reads as reads
-use Rattle.placing.proofs.fitting.chains_fit.Lts as lts
-use Rattle.placing.proofs.fitting.times_in.Reads as times-in-reads
-use Rattle.rules.proofs.chains.chains_ok.Reads as chains-ok-reads
 
 mul-with : tie.Need-mul-with
 mul-with c = search needs

@@ -5,11 +5,6 @@ use borrow.Author.Needs.{needs}
 use mathlib.Core.Path.{refl}
 use Rattle.placing.proofs.fitting.end_of.Statement.{statement}
 use Rattle.placing.proofs.fitting.end_of.Tie as tie
-use Rattle.placing.proofs.fitting.end_of.Reads as reads
-use Rattle.placing.proofs.fitting.end_of.Lts as lts
-use Rattle.placing.proofs.fitting.end_by.Reads as end-by-reads
-use Rattle.placing.proofs.fitting.unit_at.Reads as unit-at-reads
-use Rattle.placing.proofs.fitting.wide.Reads as wide-reads
 
 mul-start : tie.Need-mul-start
 mul-start c = search needs

@@ -12,11 +12,6 @@ use mathlib.Core.Path.{_≡_}
 use native.Mathlib.Omega.{arith}
 use Rattle.placing.proofs.fitting.first_start.Statement.{statement}
 use Rattle.placing.proofs.fitting.first_start.Tie as tie
-use Rattle.placing.proofs.fitting.first_start.Reads as reads
-use Rattle.placing.proofs.fitting.first_start.Lts as lts
-use Rattle.placing.proofs.fitting.end_of.Reads as end-of-reads
-use Rattle.placing.proofs.fitting.later.Reads as later-reads
-use Rattle.placing.proofs.fitting.near_at.Reads as near-at-reads
 
 abbrev Inv-loop : tie.InvT-loop
 Inv-loop delays near starts insts op first₀ o₀ first o = (o ≤ opCells) × (linked near op o ≡ true) × (first ≡ firstStart delays near starts insts op (min o op))

@@ -6,13 +6,6 @@ use borrow.Author.Needs.{needs}
 use borrow.Author.Tests.{not-false, not-true}
 use Rattle.placing.proofs.fitting.fits.Statement.{statement}
 use Rattle.placing.proofs.fitting.fits.Tie as tie
-use Rattle.placing.proofs.fitting.fits.Reads as reads
-use Rattle.placing.proofs.fitting.fits.Lts as lts
-use Rattle.placing.proofs.fitting.chained.Reads as chained-reads
-use Rattle.placing.proofs.fitting.chains_fit.Reads as chains-fit-reads
-use Rattle.placing.proofs.fitting.links_fit.Reads as links-fit-reads
-use Rattle.placing.proofs.fitting.shares_fit.Reads as shares-fit-reads
-use Rattle.placing.proofs.fitting.unit_at.Reads as unit-at-reads
 
 unit-at-requires : tie.Need-unit-at-requires
 unit-at-requires c κs = search needs

@@ -6,11 +6,6 @@ use borrow.Author.Needs.{needs}
 use mathlib.Core.Path.{refl}
 use Rattle.placing.proofs.fitting.in_turn.Statement.{statement}
 use Rattle.placing.proofs.fitting.in_turn.Tie as tie
-use Rattle.placing.proofs.fitting.in_turn.Reads as reads
-use Rattle.placing.proofs.fitting.in_turn.Lts as lts
-use Rattle.placing.proofs.fitting.unit_at.Reads as unit-at-reads
-use Rattle.placing.proofs.fitting.wide.Reads as wide-reads
-use Rattle.rules.proofs.precedence.precedes.Reads as precedes-reads
 
 mul-start : tie.Need-mul-start
 mul-start c = search needs

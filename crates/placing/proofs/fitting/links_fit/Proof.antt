@@ -15,11 +15,6 @@ use mathlib.Core.Path.{_≡_}
 use native.Mathlib.Omega.{arith}
 use Rattle.placing.proofs.fitting.links_fit.Statement.{statement}
 use Rattle.placing.proofs.fitting.links_fit.Tie as tie
-use Rattle.placing.proofs.fitting.links_fit.Reads as reads
-use Rattle.placing.proofs.fitting.links_fit.Lts as lts
-use Rattle.placing.proofs.fitting.in_turn.Reads as in-turn-reads
-use Rattle.placing.proofs.fitting.near_at.Reads as near-at-reads
-use Rattle.placing.proofs.fitting.pair_ok.Reads as pair-ok-reads
 
 abbrev Inv-loop : tie.InvT-loop
 Inv-loop times delays near starts insts wire clock reach op s time delay o₀ o =

@@ -5,10 +5,6 @@ use borrow.Author.Needs.{needs}
 use mathlib.Core.Path.{refl}
 use Rattle.placing.proofs.fitting.pair_ok.Statement.{statement}
 use Rattle.placing.proofs.fitting.pair_ok.Tie as tie
-use Rattle.placing.proofs.fitting.pair_ok.Reads as reads
-use Rattle.placing.proofs.fitting.pair_ok.Lts as lts
-use Rattle.placing.proofs.fitting.unit_at.Reads as unit-at-reads
-use Rattle.placing.proofs.fitting.wide.Reads as wide-reads
 
 mul-if1 : tie.Need-mul-if1
 mul-if1 c = search needs

@@ -5,11 +5,6 @@ use Rattle.rules.specs.Rules.{apart}
 use borrow.Author.Needs.{needs}
 use Rattle.placing.proofs.fitting.share_fits.Statement.{statement}
 use Rattle.placing.proofs.fitting.share_fits.Tie as tie
-use Rattle.placing.proofs.fitting.share_fits.Reads as reads
-use Rattle.placing.proofs.fitting.share_fits.Lts as lts
-use Rattle.placing.proofs.fitting.unit_at.Reads as unit-at-reads
-use Rattle.placing.proofs.fitting.wide.Reads as wide-reads
-use Rattle.rules.proofs.resource.apart.Reads as apart-reads
 
 mul-wide : tie.Need-mul-wide
 mul-wide c = search needs

@@ -13,9 +13,6 @@ use mathlib.Core.Path.{_∙_, _≡_, sym}
 use native.Mathlib.Omega.{arith}
 use Rattle.placing.proofs.fitting.shares_fit.Statement.{statement}
 use Rattle.placing.proofs.fitting.shares_fit.Tie as tie
-use Rattle.placing.proofs.fitting.shares_fit.Reads as reads
-use Rattle.placing.proofs.fitting.shares_fit.Lts as lts
-use Rattle.placing.proofs.fitting.share_fits.Reads as share-fits-reads
 
 abbrev Inv-loop : tie.InvT-loop
 Inv-loop spacings starts insts reach s i spacing o₀ o = (o ≤ reach) × (allTo (shareFits spacings starts insts s i spacing) o ≡ true)

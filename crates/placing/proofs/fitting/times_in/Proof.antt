@@ -10,10 +10,6 @@ use mathlib.Core.Path.{_≡_}
 use native.Mathlib.Omega.{arith}
 use Rattle.placing.proofs.fitting.times_in.Statement.{statement}
 use Rattle.placing.proofs.fitting.times_in.Tie as tie
-use Rattle.placing.proofs.fitting.times_in.Reads as reads
-use Rattle.placing.proofs.fitting.times_in.Lts as lts
-use Rattle.placing.proofs.fitting.unit_at.Reads as unit-at-reads
-use Rattle.placing.proofs.fitting.wide.Reads as wide-reads
 
 abbrev Inv-loop : tie.InvT-loop
 Inv-loop times insts row-times₀ o₀ row-times o = (o ≤ opCells) × (row-times ≡ cells (rowAt (unit times) insts) o opCells)

@@ -4,8 +4,6 @@ use Rattle.sheets.specs.Answers.{written}
 use borrow.Author.Needs.{needs}
 use Rattle.search.proofs.searching.found.Statement.{statement}
 use Rattle.search.proofs.searching.found.Tie as tie
-use Rattle.search.proofs.searching.found.Reads as reads
-use Rattle.search.proofs.searching.found.Lts as lts
 
 enum-known-written : tie.Need-enum-known-written
 enum-known-written c = search needs

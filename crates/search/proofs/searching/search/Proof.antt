@@ -3,11 +3,6 @@ use Rattle.search.proofs.SearchSteps.{ends-read, ends-unread, was-read}
 use borrow.Author.Needs.{needs}
 use Rattle.search.proofs.searching.search.Statement.{statement}
 use Rattle.search.proofs.searching.search.Tie as tie
-use Rattle.search.proofs.searching.search.Reads as reads
-use Rattle.search.proofs.searching.search.Lts as lts
-use Rattle.search.proofs.searching.search_job.Reads as search-job-reads
-use Rattle.search.proofs.searching.unread.Reads as unread-reads
-use Rattle.sheets.proofs.jobs.read_job.Reads as read-job-reads
 
 read-job-requires : tie.Need-read-job-requires
 read-job-requires c κs = search needs

@@ -12,14 +12,6 @@ use native.Mathlib.Omega.{arith}
 use Rattle.search.specs.declared.Progress.{Progress}
 use Rattle.search.proofs.searching.search_job.Statement.{statement}
 use Rattle.search.proofs.searching.search_job.Tie as tie
-use Rattle.search.proofs.searching.search_job.Reads as reads
-use Rattle.search.proofs.searching.search_job.Lts as lts
-use Rattle.placing.proofs.boards.board_of.Reads as board-of-reads
-use Rattle.placing.proofs.costing.smallest.Reads as smallest-reads
-use Rattle.search.proofs.searching.found.Reads as found-reads
-use Rattle.search.proofs.walking.arrive.Reads as arrive-reads
-use Rattle.search.proofs.walking.walk.Reads as walk-reads
-use Rattle.sheets.proofs.plans.write_plan.Reads as write-plan-reads
 
 board-of-requires : tie.Need-board-of-requires
 board-of-requires c κs = read-limits _ (c .before .pre)

@@ -2,9 +2,6 @@
 use borrow.Author.Needs.{needs}
 use Rattle.search.proofs.searching.searched_says.Statement.{statement}
 use Rattle.search.proofs.searching.searched_says.Tie as tie
-use Rattle.search.proofs.searching.searched_says.Reads as reads
-use Rattle.search.proofs.searching.searched_says.Lts as lts
-use Rattle.basics.proofs.refused.Reads as refused-reads
 
 enum-known-answer : tie.Need-enum-known-answer
 enum-known-answer c = search needs

@@ -3,8 +3,6 @@ use Rattle.search.specs.Search.{ifRead}
 use borrow.Author.Needs.{needs}
 use Rattle.search.proofs.searching.unread.Statement.{statement}
 use Rattle.search.proofs.searching.unread.Tie as tie
-use Rattle.search.proofs.searching.unread.Reads as reads
-use Rattle.search.proofs.searching.unread.Lts as lts
 
 enum-told : tie.Need-enum-told
 enum-told c = search needs

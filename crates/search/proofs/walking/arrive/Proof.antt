@@ -5,8 +5,6 @@ use borrow.Author.Needs.{needs}
 use borrow.Author.Tests.{le-leb, lt-leb}
 use Rattle.search.proofs.walking.arrive.Statement.{statement}
 use Rattle.search.proofs.walking.arrive.Tie as tie
-use Rattle.search.proofs.walking.arrive.Reads as reads
-use Rattle.search.proofs.walking.arrive.Lts as lts
 
 returns : tie.Need-returns
 unfolding arrivalIf
