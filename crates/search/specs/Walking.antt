@@ -72,7 +72,7 @@ unfoldable pub goesOn : Board → ℕ → Placing → State Placing → State Pl
 goesOn b zero p s = record { visits = s .visits; best = record { held = true; cost = cost b p; node = p } }
 goesOn b (suc d) p s = each (walkFrom b d) (children b d p) s
 
--- ---- what is asked: the board of a job that was read, operations below op placed and live, the others not, and their cost
+-- ---- what is asked: the board of a job that was read, rows that are live with none from op on, and their cost
 
 pub record Walkable (b : Board) (op : ℕ) (p : Placing) (lows : List ℕ) (here : ℕ) : Type 0 where
   pub of : OfJob b

@@ -68,8 +68,16 @@ fn visit<'a>(
     so_far: Progress,
     budget: u32,
 ) -> Walked
-    requires { ⌜ Visitable (boardWith n k t e wire clock (now from) (now to) (now types) (now costs) (now times) (now delays) (now spacings) (now lasts) (now near)) op (placing (now starts) (now insts)) (now lows) here s i × («so_far» .visits ≤ budget) ⌝ }
-    ensures { λ r. ⌜ Walks budget (walkFrom (boardWith n k t e wire clock (now (from .entry)) (now (to .entry)) (now (types .entry)) (now (costs .entry)) (now (times .entry)) (now (delays .entry)) (now (spacings .entry)) (now (lasts .entry)) (now (near .entry))) (n - (op + 1)) (put (placing (now (starts .entry)) (now (insts .entry))) op (optionAt s i)) (stateOf «so_far» (now («best_starts» .entry)) (now («best_insts» .entry)))) r (placing (now (starts .entry)) (now (insts .entry))) (placing (now (starts .exit)) (now (insts .exit))) (placing (now («best_starts» .exit)) (now («best_insts» .exit))) (now (lows .entry)) (now (lows .exit)) ⌝ }
+    requires { ⌜ Visitable
+        (boardWith n k t e wire clock (now from) (now to) (now types) (now costs) (now times) (now delays) (now spacings) (now lasts) (now near))
+        op (placing (now starts) (now insts)) (now lows) here s i
+        × («so_far» .visits ≤ budget) ⌝ }
+    ensures { λ r. ⌜ Walks budget
+        (walkFrom
+        (boardWith n k t e wire clock (now (from .entry)) (now (to .entry)) (now (types .entry)) (now (costs .entry)) (now (times .entry)) (now (delays .entry)) (now (spacings .entry)) (now (lasts .entry)) (now (near .entry)))
+        (n - (op + 1)) (put (placing (now (starts .entry)) (now (insts .entry))) op (optionAt s i)) (stateOf «so_far» (now («best_starts» .entry)) (now («best_insts» .entry))))
+        r (placing (now (starts .entry)) (now (insts .entry))) (placing (now (starts .exit)) (now (insts .exit))) (placing (now («best_starts» .exit)) (now («best_insts» .exit)))
+        (now (lows .entry)) (now (lows .exit)) ⌝ }
 {
     let y = types[i] as usize;
     let low = lows[y];
@@ -126,7 +134,7 @@ fn visit<'a>(
 
 // An arrival that goes on: operations below op are placed, at the cost `here`, and the walk has come as far as `so_far`. `lows`
 // has each type's lowest instance in use.
-pub fn walk<'a>(
+pub(crate) fn walk<'a>(
     n: usize,
     k: usize,
     t: u16,
@@ -152,8 +160,16 @@ pub fn walk<'a>(
     so_far: Progress,
     budget: u32,
 ) -> Walked
-    requires { ⌜ Walkable (boardWith n k t e wire clock (now from) (now to) (now types) (now costs) (now times) (now delays) (now spacings) (now lasts) (now near)) op (placing (now starts) (now insts)) (now lows) here × («so_far» .visits ≤ budget) ⌝ }
-    ensures { λ r. ⌜ Walks budget (goesOn (boardWith n k t e wire clock (now (from .entry)) (now (to .entry)) (now (types .entry)) (now (costs .entry)) (now (times .entry)) (now (delays .entry)) (now (spacings .entry)) (now (lasts .entry)) (now (near .entry))) (n - op) (placing (now (starts .entry)) (now (insts .entry))) (stateOf «so_far» (now («best_starts» .entry)) (now («best_insts» .entry)))) r (placing (now (starts .entry)) (now (insts .entry))) (placing (now (starts .exit)) (now (insts .exit))) (placing (now («best_starts» .exit)) (now («best_insts» .exit))) (now (lows .entry)) (now (lows .exit)) ⌝ }
+    requires { ⌜ Walkable
+        (boardWith n k t e wire clock (now from) (now to) (now types) (now costs) (now times) (now delays) (now spacings) (now lasts) (now near))
+        op (placing (now starts) (now insts)) (now lows) here
+        × («so_far» .visits ≤ budget) ⌝ }
+    ensures { λ r. ⌜ Walks budget
+        (goesOn
+        (boardWith n k t e wire clock (now (from .entry)) (now (to .entry)) (now (types .entry)) (now (costs .entry)) (now (times .entry)) (now (delays .entry)) (now (spacings .entry)) (now (lasts .entry)) (now (near .entry)))
+        (n - op) (placing (now (starts .entry)) (now (insts .entry))) (stateOf «so_far» (now («best_starts» .entry)) (now («best_insts» .entry))))
+        r (placing (now (starts .entry)) (now (insts .entry))) (placing (now (starts .exit)) (now (insts .exit))) (placing (now («best_starts» .exit)) (now («best_insts» .exit)))
+        (now (lows .entry)) (now (lows .exit)) ⌝ }
 {
     if op == n {
         *best_starts = *starts;
