@@ -40,7 +40,7 @@ enum {
     TOLMUPUNG_READ = 7
 };
 
-/* The number of a refusal. */
+/* The number of a refusal, and of spent and none. */
 enum {
     TOLMUPUNG_BITS_RUN_OUT = 1,
     TOLMUPUNG_FORM_DIFFERS = 2,

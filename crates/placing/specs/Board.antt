@@ -32,11 +32,11 @@ lastTable t times delays = cells (lastAt t times delays) unitCells unitCells
 
 -- ---- the first operation from x on that a link joins to operation o; opCells where there is none
 
--- a link joins a and y, and the first found so far is `far`: y where a is o and y is from x on and before that
 unfoldable pub nearerIf : Bool → ℕ → ℕ → ℕ
 nearerIf true far y = y
 nearerIf false far y = far
 
+-- a link joins a and y, and the first found so far is `far`: y where a is o and y is from x on and before that
 unfoldable pub nearer : ℕ → ℕ → ℕ → ℕ → ℕ → ℕ
 nearer o x far a y = nearerIf (eqb a o && leb x y && ltb y far) far y
 
@@ -56,7 +56,7 @@ nearAt from to e c = nearest from to (c / nearCells) (c % nearCells) e
 abbrev pub nearTable : List ℕ → List ℕ → ℕ → ℕ → List ℕ
 nearTable from to e n = cells (nearAt from to e) (nearCells * n) (nearCells * opCells)
 
--- what the table says of operation o: a link joins it to x, or which is the first one behind
+-- what the table says of operation o: which is the first from x on, and so whether a link joins it to x (below opCells)
 abbrev pub nearOf : List ℕ → ℕ → ℕ → ℕ
 nearOf near o x = cell near (nearCells * o + x)
 

@@ -19,11 +19,12 @@ reached types lows i = leb (cell lows (cell types i)) i
 abbrev pub lowered : List ℕ → List ℕ → ℕ → List ℕ
 lowered types lows i = set lows (cell types i) (min (cell lows (cell types i)) i)
 
--- the cost with instance i, where it was `here` with lowest instance `low` of its type: only a lower one changes it
 unfoldable pub costIf : Bool → ℕ → ℕ → ℕ
 costIf true here anew = here
 costIf false here anew = anew
 
+-- the cost with instance i, where `lows` has it already, and before the cost was `here` and its type's lowest instance `low`: only
+-- a lower one changes it
 unfoldable pub costWith : List ℕ → List ℕ → List ℕ → ℕ → ℕ → ℕ → ℕ → ℕ
 costWith types costs lows k here low i = costIf (leb low i) here (selectionCost costs types (reached types lows) k)
 

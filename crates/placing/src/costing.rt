@@ -32,7 +32,7 @@ fn cost_of<'a>(types: &'a [u16], costs: &'a [u16], lows: &'a [u16], k: usize) ->
     sum
 }
 
-// The cost with instance i, where it was `here` with lowest instance `low` of its type.
+// The cost with instance i, where `lows` has it already, and before the cost was `here` and its type's lowest instance `low`.
 pub fn cost_with<'a>(
     types: &'a [u16],
     costs: &'a [u16],

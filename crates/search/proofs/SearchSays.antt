@@ -1,5 +1,5 @@
--- What each answer of the search on bytes means: `spent-exactly`, `none-exactly`, `found-exactly` and `refused-exactly`. There is
--- one plan to be found (`one-plan`).
+-- What each answer of the search on bytes means: `spent-exactly`, `none-exactly`, `found-exactly` and `refused-exactly`. Only found
+-- changes the output (`untouched`). There is one plan to be found (`one-plan`).
 use Prim.Native.Nat.{ℕ, zero, suc, _+_, _/_, _≤_, _<_}
 use mathlib.Core.Path.{_≡_, refl, sym, ap, subst, _∙_}
 use mathlib.Core.Bool.{Bool, true, false}
@@ -29,7 +29,7 @@ use Rattle.rules.specs.Model.{instCount}
 use Rattle.rules.specs.Meets.{Meets, start, inst, Selected}
 use Rattle.placing.specs.Board.{boardOf}
 use Rattle.search.specs.Search.{walked, planFrom, wrote, answered, searchJob, outIf, searchJobOut, ifRead, search, outIfRead, searchOut}
-use Rattle.search.specs.Cheapest.{SameRow, SameRows, Before, FirstCheapest, Spends, NoPlan, Finds}
+use Rattle.search.specs.Cheapest.{SameRow, SameRows, Before, FirstCheapest, Spends, NoPlan, Finds, Refusal}
 use Rattle.search.specs.declared.Searched.{Searched}
 use Rattle.search.specs.declared.Searched.the-variants.{Found, Nothing, Spent, Refused}
 use Rattle.search.proofs.SearchMeets.{search-none, search-found, found-shape, found-sound}
@@ -225,18 +225,6 @@ module _ (job : List ℕ) (budget room v : ℕ) where
 
 -- ---- refused: the job is, or the output is too short
 
--- the job is read, its walk keeps within the budget, and the sheet of the plan to be found has more bytes than there is room
-pub record Short (job : List ℕ) (budget room : ℕ) : Type 0 where
-  pub asJob : Job
-  pub jobRead : readJob job ≡ record { answer = Read; job = asJob }
-  pub kept : walked (boardOf asJob) .visits ≤ budget
-  pub asPlan : Plan
-  pub cost : ℕ
-  pub plan : FirstCheapest asJob asPlan cost
-  pub shape : PlanShape asPlan
-  pub sound : planRecordFault asPlan ≡ 0
-  pub long : room < length (planSheet asPlan)
-
 -- a plan to be found is the one that is held
 held-plan : (job : List ℕ) (j : Job) (r : Reads job j) (p : Plan) (c : ℕ) → FirstCheapest j p c → PlanShape p → planRecordFault p ≡ 0
     → (walked (boardOf j) .best .held ≡ true) × (p ≡ foundIn j) × (c ≡ walked (boardOf j) .best .cost)
@@ -249,13 +237,10 @@ held-plan job j r p c f t z =
     )
 
 module _ (job : List ℕ) (budget room number paper : ℕ) where
-  abbrev pub Refusal : Type 0
-  Refusal = (readJob job .answer ≡ Unread number paper) ⊎ ((number ≡ outputShort) × (paper ≡ paperRequest) × Short job budget room)
-
-  pub refused-says : search job budget room ≡ Refused number paper → Refusal
+  refused-says : search job budget room ≡ Refused number paper → Refusal job budget room number paper
   refused-says e = go (way job budget room) (sym (answers job budget room (way job budget room)) ∙ e)
     where
-      go : (w : Way job budget room) → answerOf job budget room w ≡ Refused number paper → Refusal
+      go : (w : Way job budget room) → answerOf job budget room w ≡ Refused number paper → Refusal job budget room number paper
       go (unread number' paper' r) e =
           let a : number' ≡ number = cc in
           let b : paper' ≡ paper = cc in
@@ -282,7 +267,7 @@ module _ (job : List ℕ) (budget room number paper : ℕ) where
             },
           )
 
-  says-refused : Refusal → search job budget room ≡ Refused number paper
+  says-refused : Refusal job budget room number paper → search job budget room ≡ Refused number paper
   says-refused (inl e) = answers job budget room (unread number paper e)
   says-refused (inr w) =
       let s = w .2 in
@@ -292,7 +277,7 @@ module _ (job : List ℕ) (budget room number paper : ℕ) where
       let same : length (planSheet (s .asPlan)) ≡ length (planSheet (foundIn j)) = ap (λ (p : Plan). length (planSheet p)) (g .1) in
       rw (w .0, w .1) (answers job budget room (short j (s .jobRead) (s .kept) (g .0) (omega (arith, size, same, s .long))))
 
-  pub refused-exactly : (search job budget room ≡ Refused number paper) ↔ Refusal
+  pub refused-exactly : (search job budget room ≡ Refused number paper) ↔ Refusal job budget room number paper
   refused-exactly = (refused-says, says-refused)
 
 -- ---- found
@@ -346,3 +331,17 @@ module _ (job : List ℕ) (budget : ℕ) (before : List ℕ) (c v size : ℕ) wh
   pub found-exactly : (after : List ℕ)
       → ((search job budget (length before) ≡ Found c v size) × (after ≡ searchOut job budget before)) ↔ Finds job budget before after c v size
   found-exactly after = ((λ w. rw (w .1) (found-says (w .0))), says-found after)
+
+-- ---- every other answer leaves the output's bytes as they were
+
+pub untouched : (job : List ℕ) (budget : ℕ) (before : List ℕ) → ((c v size : ℕ) → search job budget (length before) ≡ Found c v size → ⊥)
+    → searchOut job budget before ≡ before
+unfolding searchOut outIfRead searchJobOut outIf planOut writePlan written ifRoom output
+untouched job budget before other = go (way job budget (length before))
+  where
+    go : Way job budget (length before) → searchOut job budget before ≡ before
+    go (unread number paper e) = rw e
+    go (over j r l) = rw (r, lt-leb (walked (boardOf j) .visits) budget l)
+    go (empty j r k h) = rw (r, le-leb (walked (boardOf j) .visits) budget k, h)
+    go (fits j r k h l) = absurd (other _ _ _ (answers job budget (length before) (fits j r k h l)))
+    go (short j r k h l) = rw (r, le-leb (walked (boardOf j) .visits) budget k, h, found-sound job j r h, lt-leb (sizeIn j) (length before) l)

@@ -1,15 +1,16 @@
 -- What the search's answer means, as a person reads it: `FirstCheapest j p c`, p is the plan that the search is to find for
--- the job j, and c its cost. `Spends`, `NoPlan` and `Finds` say what each answer on bytes means.
+-- the job j, and c its cost. `Spends`, `NoPlan`, `Finds` and `Refusal` say what each answer on bytes means.
 use Prim.Native.Nat.{ℕ, _<_, _≤_}
 use mathlib.Core.Path.{_≡_}
 use mathlib.Core.List.{List, _++_}
 use mathlib.Core.Logic.{_⊎_}
 use lib.ListN.{length, drop}
+use Rattle.basics.specs.Numbers.{outputShort, paperRequest}
 use Rattle.sheets.specs.JobSheet.{readJob}
 use Rattle.sheets.specs.PlanSheet.{PlanShape, planSheet, planRecordFault}
 use Rattle.sheets.specs.declared.Job.{Job}
 use Rattle.sheets.specs.declared.Plan.{Plan}
-use Rattle.sheets.specs.declared.Reading.the-variants.{Read}
+use Rattle.sheets.specs.declared.Reading.the-variants.{Read, Refused as Unread}
 use Rattle.rules.specs.Model.{instCount}
 use Rattle.rules.specs.Judge.{planCost}
 use Rattle.rules.specs.Meets.{Meets, start, inst, Selected}
@@ -73,3 +74,20 @@ pub record Finds (job : List ℕ) (budget : ℕ) (before after : List ℕ) (cost
   pub bytes : after ≡ planSheet asPlan ++ drop size before
   pub long : length (planSheet asPlan) ≡ size
   pub given : visits ≡ walked (boardOf asJob) .visits
+
+-- the job is read, its walk keeps within the budget, and the sheet of the plan to be found has more bytes than there is room
+pub record Short (job : List ℕ) (budget room : ℕ) : Type 0 where
+  pub asJob : Job
+  pub jobRead : readJob job ≡ record { answer = Read; job = asJob }
+  pub kept : walked (boardOf asJob) .visits ≤ budget
+  pub asPlan : Plan
+  pub cost : ℕ
+  pub plan : FirstCheapest asJob asPlan cost
+  pub shape : PlanShape asPlan
+  pub sound : planRecordFault asPlan ≡ 0
+  pub long : room < length (planSheet asPlan)
+
+-- the job is refused by its reader, or the output is too short
+abbrev pub Refusal : List ℕ → ℕ → ℕ → ℕ → ℕ → Type 0
+Refusal job budget room number paper =
+    (readJob job .answer ≡ Unread number paper) ⊎ ((number ≡ outputShort) × (paper ≡ paperRequest) × Short job budget room)

@@ -22,7 +22,7 @@ fn lower(low: u16, i: u16) -> u16
 }
 
 // One arrival more, at the cost `here`: it goes no further where a best is held and the cost is not below it.
-pub fn arrive(so_far: Progress, here: u32, budget: u32) -> Arrival
+pub(crate) fn arrive(so_far: Progress, here: u32, budget: u32) -> Arrival
     ensures { λ r. ⌜ r ≡ arrival budget «so_far» here ⌝ }
 {
     if budget <= so_far.visits {
