@@ -1,4 +1,5 @@
-/* Tolmupung: job and plan sheets, read and written exactly, plans judged, and the cheapest plan searched for.
+/* Tolmupung: job and plan sheets, read and written exactly, plans judged, the cheapest plan searched for, and closing notes
+ * checked and written.
  *
  * Every entry takes any bytes and any numbers, and ends. A refusal gives its number and the paper at fault,
  * and changes no output byte. Nothing here allocates, and nothing is kept between calls.
@@ -25,7 +26,8 @@ enum {
     TOLMUPUNG_KINDS = 8,
     TOLMUPUNG_PAIR_CELLS = TOLMUPUNG_TYPE_CELLS * TOLMUPUNG_KINDS,
     TOLMUPUNG_JOB_BYTES = 274,
-    TOLMUPUNG_PLAN_BYTES = 31
+    TOLMUPUNG_PLAN_BYTES = 31,
+    TOLMUPUNG_NOTE_BYTES = 60000
 };
 
 /* What an answer can be. */
@@ -60,7 +62,12 @@ enum {
     TOLMUPUNG_CHAIN_BROKEN = 18,
     TOLMUPUNG_OUTPUT_SHORT = 22,
     TOLMUPUNG_BUDGET_SPENT = 30,       /* the search needs more visits than its budget */
-    TOLMUPUNG_NO_PLAN = 31             /* no plan meets the rules */
+    TOLMUPUNG_NO_PLAN = 31,            /* no plan meets the rules */
+    TOLMUPUNG_NOTE_LONG = 40,          /* over 60,000 bytes */
+    TOLMUPUNG_VERDICT_DIFFERS = 41,    /* 1 without a plan, or 0 with one */
+    TOLMUPUNG_SPLIT_BROKEN = 42,       /* on a number not below N, or on an operation already placed */
+    TOLMUPUNG_CLOSE_BROKEN = 43,       /* bit 0 not allowed */
+    TOLMUPUNG_CHEAPER = 44             /* all placed and cheaper than the claim, or under verdict 0 */
 };
 
 /* The paper at fault. */
@@ -133,6 +140,19 @@ tolmupung_answer tolmupung_judge(const uint8_t *job, size_t job_len, const uint8
  * numbers or at last by 22. */
 tolmupung_answer tolmupung_search(const uint8_t *job, size_t job_len, uint32_t budget, uint8_t *out, size_t out_len);
 
+/* The check of a closing note beside a plan; a plan of length 0 means no plan. Cheapest with the cost: the plan meets the rules,
+ * and no plan that does costs less. None (all numbers 0): no plan meets the rules. Else refused, by the job reader's numbers, the
+ * plan reader's, 10 to 18, or (paper 2) by 40, 1, 2, 41, then 1, 42, 43 or 44 where the tree first breaks, and at last 6. */
+tolmupung_answer tolmupung_check_note(const uint8_t *job, size_t job_len, const uint8_t *plan, size_t plan_len,
+                                      const uint8_t *note, size_t note_len);
+
+/* The house writer of closing notes, for a plan, or for none where the plan's length is 0: written with the length of the note,
+ * whose bytes begin the output; the bytes behind them stay as they were. Else no byte of it changes: refused by the job reader's
+ * numbers, the plan reader's, 10 to 18, or by 44 (paper 2: a plan that is cheaper exists, or one at all where none was lent) or
+ * 22, the one that its walk meets first. More than 60,000 bytes of the output are not used. */
+tolmupung_answer tolmupung_write_note(const uint8_t *job, size_t job_len, const uint8_t *plan, size_t plan_len, uint8_t *out,
+                                      size_t out_len);
+
 #ifdef __cplusplus
 }
 #endif
@@ -183,11 +203,27 @@ static inline tolmupung_answer tolmupung_safe_search(const uint8_t *job, size_t 
     return tolmupung_search(tolmupung_from(job), job ? job_len : 0, budget, tolmupung_into(out), out ? out_len : 0);
 }
 
+static inline tolmupung_answer tolmupung_safe_check_note(const uint8_t *job, size_t job_len, const uint8_t *plan,
+                                                         size_t plan_len, const uint8_t *note, size_t note_len)
+{
+    return tolmupung_check_note(tolmupung_from(job), job ? job_len : 0, tolmupung_from(plan), plan ? plan_len : 0,
+                                tolmupung_from(note), note ? note_len : 0);
+}
+
+static inline tolmupung_answer tolmupung_safe_write_note(const uint8_t *job, size_t job_len, const uint8_t *plan,
+                                                         size_t plan_len, uint8_t *out, size_t out_len)
+{
+    return tolmupung_write_note(tolmupung_from(job), job ? job_len : 0, tolmupung_from(plan), plan ? plan_len : 0,
+                                tolmupung_into(out), out ? out_len : 0);
+}
+
 #define tolmupung_read_job tolmupung_safe_read_job
 #define tolmupung_read_plan tolmupung_safe_read_plan
 #define tolmupung_write_job tolmupung_safe_write_job
 #define tolmupung_write_plan tolmupung_safe_write_plan
 #define tolmupung_judge tolmupung_safe_judge
 #define tolmupung_search tolmupung_safe_search
+#define tolmupung_check_note tolmupung_safe_check_note
+#define tolmupung_write_note tolmupung_safe_write_note
 
 #endif

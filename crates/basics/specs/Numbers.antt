@@ -68,6 +68,26 @@ budgetSpent = 30
 abbrev pub noPlan : ℕ
 noPlan = 31
 
+-- a note over 60,000 bytes
+abbrev pub noteLong : ℕ
+noteLong = 40
+
+-- verdict 1 without a plan, or 0 with one
+abbrev pub verdictDiffers : ℕ
+verdictDiffers = 41
+
+-- a split on a number not below N, or on an operation already placed
+abbrev pub splitBroken : ℕ
+splitBroken = 42
+
+-- bit 0 where it is not allowed
+abbrev pub closeBroken : ℕ
+closeBroken = 43
+
+-- all placed, and cheaper than the claim or under verdict 0
+abbrev pub cheaper : ℕ
+cheaper = 44
+
 -- ---- papers
 
 abbrev pub paperJob : ℕ
@@ -75,6 +95,9 @@ paperJob = 0
 
 abbrev pub paperPlan : ℕ
 paperPlan = 1
+
+abbrev pub paperNote : ℕ
+paperNote = 2
 
 abbrev pub paperRequest : ℕ
 paperRequest = 4
@@ -95,6 +118,9 @@ outcomeNone = 3
 
 abbrev pub outcomeSpent : ℕ
 outcomeSpent = 4
+
+abbrev pub outcomeCheapest : ℕ
+outcomeCheapest = 5
 
 abbrev pub outcomeWritten : ℕ
 outcomeWritten = 6

@@ -45,10 +45,22 @@ pub const BUDGET_SPENT: u32 = 30;
 
 pub const NO_PLAN: u32 = 31;
 
+pub const NOTE_LONG: u32 = 40;
+
+pub const VERDICT_DIFFERS: u32 = 41;
+
+pub const SPLIT_BROKEN: u32 = 42;
+
+pub const CLOSE_BROKEN: u32 = 43;
+
+pub const CHEAPER: u32 = 44;
+
 // The numbers of papers.
 pub const PAPER_JOB: u32 = 0;
 
 pub const PAPER_PLAN: u32 = 1;
+
+pub const PAPER_NOTE: u32 = 2;
 
 pub const PAPER_REQUEST: u32 = 4;
 
@@ -62,6 +74,8 @@ pub const FOUND: u32 = 2;
 pub const NONE: u32 = 3;
 
 pub const SPENT: u32 = 4;
+
+pub const CHEAPEST: u32 = 5;
 
 pub const WRITTEN: u32 = 6;
 

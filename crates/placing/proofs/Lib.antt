@@ -7,3 +7,4 @@ pub mod SelectionLaws
 pub mod OptionLaws
 pub mod FitLaws
 pub mod FitSteps
+pub mod LeafMeets

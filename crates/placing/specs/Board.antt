@@ -1,5 +1,5 @@
 -- What placing asks of a job: `boardOf`, its numbers and tables. `lasts` and `near` say nothing new; they are at hand so that
--- one more row is tested quickly. `OfJob` is a board of a job that was read.
+-- one more row is tested quickly. `OfJob` is a board of a job that was read, `WasRead` such a job.
 use Prim.Native.Nat.{ℕ, zero, suc, _+_, _-_, _*_, _/_, _%_, _≤_, _<_}
 use mathlib.Core.Path.{_≡_}
 use mathlib.Core.Bool.{Bool, true, false, _&&_}
@@ -97,3 +97,8 @@ pub record OfJob (b : Board) : Type 0 where
   pub job : Job
   pub read : readJob sheet ≡ record { answer = Read; job = job }
   pub is : b ≡ boardOf job
+
+-- a job that a sheet was read as
+pub record WasRead (j : Job) : Type 0 where
+  pub sheet : List ℕ
+  pub read : readJob sheet ≡ record { answer = Read; job = j }

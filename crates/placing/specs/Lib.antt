@@ -4,3 +4,6 @@ pub mod Placing
 pub mod Options
 pub mod Fitting
 pub mod Costing
+pub mod Closing
+pub mod Ready
+pub mod Plans

@@ -2,6 +2,7 @@
 pub mod boards; // what placing asks of a job
 pub mod fitting; // one more row against a live placing
 pub mod costing; // the smallest selection and its cost
+pub mod closing; // when a claim lets a place be closed
 
 // What placing asks of a job, for the functions below to borrow.
 pub struct Board {
@@ -20,4 +21,10 @@ pub struct Board {
     pub spacings: [u16; rules::model::UNIT_CELLS], // steps
     pub lasts: [u16; rules::model::UNIT_CELLS], // the last step to start in, 0: none
     pub near: [u16; boards::NEAR_TABLE], // the first operation from x on that a link joins to o: cell 25 * o + x; 24: none
+}
+
+// What a note claims: a plan at this cost, or (then the cost is 0) that there is none.
+pub struct Claim {
+    pub plan: bool,
+    pub cost: u32,
 }

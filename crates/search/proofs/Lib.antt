@@ -1,4 +1,3 @@
-pub mod LeafMeets
 pub mod SearchMeets
 pub mod SearchSays
 pub mod WalkLaws

@@ -31,9 +31,10 @@ use Rattle.placing.proofs.BoardLaws.{few-ops, few-insts}
 use Rattle.placing.proofs.ListLaws.{Among, InOrder, all-among, among-right, among-either, ordered-behind}
 use Rattle.placing.proofs.OptionLaws.{PlacedTo, RowsBefore, Met, leavesOf, none-met, grows, leaf-placed, leaves-ordered}
 use Rattle.placing.proofs.SelectionLaws.{smallest-cell, smallest-least}
-use Rattle.search.specs.Search.{begin, walked, planFrom}
+use Rattle.search.specs.Search.{begin, walked}
+use Rattle.placing.specs.Plans.{planFrom}
 use Rattle.search.specs.Cheapest.{SameRows, Before, FirstCheapest}
-use Rattle.search.proofs.LeafMeets.{of-job, LeafFor, leaf-meets, meets-leaf}
+use Rattle.placing.proofs.LeafMeets.{of-job, LeafFor, leaf-meets, meets-leaf}
 
 -- a table whose cells behind the first n are 0
 each-blank : (table : List ℕ) (n : ℕ) → ((i : ℕ) → n ≤ i → cell table i ≡ 0) → blank table n ≡ true

@@ -28,7 +28,8 @@ use Rattle.sheets.proofs.PlanRoundTrip.{plan-read-written}
 use Rattle.rules.specs.Model.{instCount}
 use Rattle.rules.specs.Meets.{Meets, start, inst, Selected}
 use Rattle.placing.specs.Board.{boardOf}
-use Rattle.search.specs.Search.{walked, planFrom, wrote, answered, searchJob, outIf, searchJobOut, ifRead, search, outIfRead, searchOut}
+use Rattle.search.specs.Search.{walked, wrote, answered, searchJob, outIf, searchJobOut, ifRead, search, outIfRead, searchOut}
+use Rattle.placing.specs.Plans.{planFrom}
 use Rattle.search.specs.Cheapest.{SameRow, SameRows, Before, FirstCheapest, Spends, NoPlan, Finds, Refusal}
 use Rattle.search.specs.declared.Searched.{Searched}
 use Rattle.search.specs.declared.Searched.the-variants.{Found, Nothing, Spent, Refused}

@@ -27,7 +27,9 @@ use Rattle.placing.specs.declared.Board.{Board}
 use Rattle.placing.proofs.BoundLaws.{visits-walk}
 use Rattle.placing.proofs.CostLaws.{tracks-none}
 use Rattle.placing.proofs.PartLaws.{none-live}
-use Rattle.search.specs.Search.{walkFrom, begin, walked, planFrom, wrote, answered, within, searchJob, outIf, searchJobOut, WasRead, ifRead, search, outIfRead, searchOut}
+use Rattle.search.specs.Search.{walkFrom, begin, walked, wrote, answered, within, searchJob, outIf, searchJobOut, ifRead, search, outIfRead, searchOut}
+use Rattle.placing.specs.Board.{WasRead}
+use Rattle.placing.specs.Plans.{planFrom}
 use Rattle.search.specs.Walking.{placing, stateOf, arrival, goesOn, Walkable, Walks}
 use Rattle.search.specs.declared.Arrival.{Arrival}
 use Rattle.search.specs.declared.Arrival.the-variants.{Spent as None, Shut, Open}

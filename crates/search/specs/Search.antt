@@ -12,14 +12,14 @@ use Rattle.basics.specs.declared.Answer.{Answer}
 use Rattle.sheets.specs.JobSheet.{readJob}
 use Rattle.sheets.specs.PlanSheet.{writePlan, planOut}
 use Rattle.sheets.specs.declared.Job.{Job}
-use Rattle.sheets.specs.declared.Plan.{Plan}
 use Rattle.sheets.specs.declared.Reading.{Reading}
 use Rattle.sheets.specs.declared.Reading.the-variants.{Read, Refused as Unread}
 use Rattle.sheets.specs.declared.Written.{Written}
 use Rattle.sheets.specs.declared.Written.the-variants.{Wrote, Refused as Unwritten}
 use Rattle.placing.specs.Bound.{State, walk}
 use Rattle.placing.specs.Board.{boardOf}
-use Rattle.placing.specs.Placing.{Placing, cost, smallest}
+use Rattle.placing.specs.Placing.{Placing, cost}
+use Rattle.placing.specs.Plans.{planFrom}
 use Rattle.placing.specs.Options.{none, children}
 use Rattle.placing.specs.declared.Board.{Board}
 use Rattle.search.specs.declared.Searched.{Searched}
@@ -36,11 +36,6 @@ begin = record { visits = 0; best = record { held = false; cost = 0; node = none
 
 unfoldable pub walked : Board → State Placing
 walked b = walkFrom b (b .n) none begin
-
--- ---- the plan of a placing, with its smallest selection
-
-abbrev pub planFrom : Board → Placing → Plan
-planFrom b p = record { n = b .n; k = b .k; selection = smallest b p; starts = p .starts; insts = p .insts }
 
 -- ---- the answer of a walk that ended at e, within the budget or not, where writing the best's plan gave w
 
@@ -73,11 +68,6 @@ searchJobOut j budget before =
     let b = boardOf j in
     let e = walked b in
     outIf (within budget e && e .best .held) (planOut (planFrom b (e .best .node)) before) before
-
--- a job that a sheet was read as
-pub record WasRead (j : Job) : Type 0 where
-  pub sheet : List ℕ
-  pub read : readJob sheet ≡ record { answer = Read; job = j }
 
 -- ---- the search: a job that cannot be read ends the question there (`Unread` is the readers' `Refused`)
 

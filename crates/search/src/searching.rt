@@ -2,7 +2,8 @@
 ghost use mathlib.Core.Path.{_≡_};
 ghost use lib.ListN.{length};
 ghost use Rattle.basics.specs.Answers.{Promise};
-ghost use Rattle.search.specs.Search.{WasRead, wrote, searchJob, searchJobOut, ifRead, search as searchOf, searchOut, searchedSays as saysOf};
+ghost use Rattle.search.specs.Search.{wrote, searchJob, searchJobOut, ifRead, search as searchOf, searchOut, searchedSays as saysOf};
+ghost use Rattle.placing.specs.Board.{WasRead};
 ghost use Rattle.search.specs.declared.Searched.the-variants.{Refused};
 use crate::Arrival;
 use crate::Progress;

@@ -1,0 +1,1 @@
+// The house writer of closing notes.

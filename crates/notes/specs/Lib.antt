@@ -1,0 +1,4 @@
+pub mod NoteSheet
+pub mod Reading
+pub mod Check
+pub mod Accepted
