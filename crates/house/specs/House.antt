@@ -10,7 +10,6 @@ use lib.Dec.{leb, ltb, eqb}
 use lib.ListN.{length, drop}
 use Rattle.basics.specs.Numbers.{outputShort, cheaper, paperNote, paperRequest}
 use Rattle.bits.specs.Sheet.{Field, total, bytesFor, pack}
-use Rattle.sheets.specs.Answers.{output}
 use Rattle.sheets.specs.declared.Job.{Job}
 use Rattle.sheets.specs.declared.Written.{Written}
 use Rattle.sheets.specs.declared.Written.the-variants.{Wrote, Refused}
@@ -22,7 +21,7 @@ use Rattle.placing.specs.Placing.{Placing}
 use Rattle.placing.specs.declared.Board.{Board}
 use Rattle.placing.specs.declared.Claim.{Claim}
 use Rattle.notes.specs.Check.{asked}
-use Rattle.notes.specs.NoteSheet.{closeMark, splitMark, headFields, splitBits, maxNote}
+use Rattle.notes.specs.NoteSheet.{closeMark, splitMark, headFields, noteSheet, splitBits, maxNote}
 use Rattle.notes.specs.declared.Claimed.{Claimed}
 use Rattle.notes.specs.declared.Claimed.the-variants.{Claims, Refused as Unclaimed}
 
@@ -71,6 +70,10 @@ nextOp b p = lowest (b .n) (p .starts)
 abbrev pub houseTreeOf : Board → Claim → Tree
 houseTreeOf b claim = houseTree Placing (closable b claim) (nextOp b) (splitOn b) (b .n) none
 
+-- the house note of a claim
+abbrev pub houseSheet : Board → Claim → List ℕ
+houseSheet b claim = noteSheet (claim .plan) (houseTreeOf b claim)
+
 -- fields behind those so far, where `room` bits hold them all
 unfoldable pub added : ℕ → List Field → List Field → Turn (List Field)
 added room fs soFar = goesIf (leb (total soFar + total fs) room) outputShort (soFar ++ fs)
@@ -92,27 +95,29 @@ unfoldable pub paperIf : Bool → ℕ
 paperIf true = paperRequest
 paperIf false = paperNote
 
+unfoldable pub stoppedBy : ℕ → Written
+stoppedBy number = Refused number (paperIf (eqb number outputShort))
+
 unfoldable pub writtenBy : Turn (List Field) → Written
 writtenBy (goes fs) = Wrote (bytesFor (total fs))
-writtenBy (stops number) = Refused number (paperIf (eqb number outputShort))
+writtenBy (stops number) = stoppedBy number
 
-unfoldable pub sheetBy : Turn (List Field) → List ℕ
-sheetBy (goes fs) = pack fs
-sheetBy (stops number) = []
+-- the output's bytes after it, where they were `before`: the sheet and what stood behind it, or all as it was
+unfoldable pub outBy : Turn (List Field) → List ℕ → List ℕ
+outBy (goes fs) before = pack fs ++ drop (bytesFor (total fs)) before
+outBy (stops number) before = before
 
+-- into an output of `room` bytes (`Unclaimed` is the claim's `Refused`)
 unfoldable pub writeClaim : Claimed → Job → ℕ → Written
 writeClaim (Claims claim) j room = writtenBy (houseFields (boardOf j) claim (roomOf room))
 writeClaim (Unclaimed number paper) j room = Refused number paper
 
-unfoldable pub claimSheet : Claimed → Job → ℕ → List ℕ
-claimSheet (Claims claim) j room = sheetBy (houseFields (boardOf j) claim (roomOf room))
-claimSheet (Unclaimed number paper) j room = []
+unfoldable pub claimOut : Claimed → Job → List ℕ → List ℕ
+claimOut (Claims claim) j before = outBy (houseFields (boardOf j) claim (roomOf (length before))) before
+claimOut (Unclaimed number paper) j before = before
 
--- into an output of `room` bytes
 unfoldable pub writeNote : List ℕ → List ℕ → ℕ → Written
 writeNote job plan room = writeClaim (asked job plan .claimed) (asked job plan .job) room
 
--- the output's bytes after it, where they were `before`
 unfoldable pub noteOut : List ℕ → List ℕ → List ℕ → List ℕ
-noteOut job plan before =
-    output (writeNote job plan (length before)) (claimSheet (asked job plan .claimed) (asked job plan .job) (length before)) before
+noteOut job plan before = claimOut (asked job plan .claimed) (asked job plan .job) before

@@ -8,10 +8,12 @@ use lib.ListN.{length}
 use Rattle.basics.specs.Numbers.{outputShort}
 use Rattle.basics.specs.Tables.{cell}
 use Rattle.bits.specs.Sheet.{Field, total, putAll}
-use Rattle.placing.specs.Closing.{Turn, goes, stops, goesIf, closable, splitOn}
+use Rattle.placing.specs.Closing.{Turn, goes, stops, andThen, goesIf, closable, splitOn}
+use Rattle.placing.specs.Options.{none}
 use Rattle.placing.specs.Placing.{Placing}
 use Rattle.placing.specs.declared.Board.{Board}
 use Rattle.placing.specs.declared.Claim.{Claim}
+use Rattle.notes.specs.NoteSheet.{headFields, splitBits}
 use Rattle.notes.specs.Reading.{branchOf}
 use Rattle.notes.specs.declared.Branch.{Branch}
 use Rattle.house.specs.House.{nextOp, write}
@@ -30,6 +32,10 @@ drafted room fs x = goesIf (leb (x .at + total fs) room) outputShort (draft (put
 abbrev pub writeAt : ℕ → ℕ → Board → Claim → ℕ → Placing → Draft → Turn Draft
 writeAt room w b claim d p x = write Placing (closable b claim) (nextOp b) (splitOn b) w (drafted room) d p x
 
+-- header and tree from the first bit of a sheet on
+unfoldable pub draftFrom : Board → Claim → ℕ → List ℕ → Turn Draft
+draftFrom b claim room sheet = andThen (drafted room (headFields (claim .plan)) (draft sheet 0)) (writeAt room splitBits b claim (b .n) none)
+
 -- as the code answers
 abbrev pub draftEnd : Turn Draft → Turn ℕ
 draftEnd (goes x) = goes (x .at)
@@ -46,3 +52,8 @@ pub record Writes (t : Turn Draft) (r : Branch) (out out' : List ℕ) (p p' : Pl
   pub size : length out' ≡ length out
   pub same : p' ≡ p
   pub same-lows : lows' ≡ lows
+
+-- the same of the whole note
+pub record Drafts (t : Turn Draft) (r : Branch) (sheet' : List ℕ) : Type 0 where
+  pub answers : r ≡ branchOf (draftEnd t)
+  pub bytes : (x : Draft) → t ≡ goes x → sheet' ≡ x .bytes

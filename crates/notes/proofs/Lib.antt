@@ -1,0 +1,4 @@
+pub mod ClaimLaws
+pub mod TreeLaws
+pub mod ReadLaws
+pub mod NoteLaws

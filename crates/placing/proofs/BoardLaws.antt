@@ -14,15 +14,16 @@ use Rattle.basics.specs.Tables.{cell}
 use Rattle.basics.proofs.CountLaws.{and-both, both-and, same-test, sumTo-most, only-small}
 use Rattle.basics.proofs.TableLaws.{cell-cells}
 use Rattle.sheets.specs.Limits.{opCells, instCells, typeCells, maxSteps}
+use Rattle.sheets.specs.declared.Job.{Job}
 use Rattle.sheets.proofs.JobRoundTrip.{job-sound}
 use Rattle.sheets.proofs.RecordLaws.{JobSound}
-use Rattle.rules.specs.Model.{behind, typeAt, typesIn, unitCells}
+use Rattle.rules.specs.Model.{behind, instCount, typeAt, typesIn, unitCells}
 use Rattle.rules.specs.Rules.{rowFault, chainsOk}
 use Rattle.rules.specs.Meets.{Link, RunsFit}
 use Rattle.rules.proofs.ChainRule.{chain-rule}
 use Rattle.rules.proofs.RuleLaws.{none-row, row-none}
 use Rattle.placing.specs.declared.Board.{Board}
-use Rattle.placing.specs.Board.{unit, lastStart, lastAt, lastTable, nearerIf, nearer, nearest, nearCells, nearAt, nearTable, nearOf, linked, Leads, boardOf, OfJob}
+use Rattle.placing.specs.Board.{unit, lastStart, lastAt, lastTable, nearerIf, nearer, nearest, nearCells, nearAt, nearTable, nearOf, linked, Leads, boardOf, OfJob, WasRead}
 
 -- ---- the first operation from x on that a link joins to o
 
@@ -300,3 +301,11 @@ module _ (b : Board) (of : OfJob b) where
   pub clock-is : of .job .clock ≡ b .clock
   unfolding boardOf
   clock-is = sym (ap (λ (x : Board). x .clock) (of .is))
+
+-- ---- of a job that was read
+
+pub read-limits : (j : Job) → WasRead j → (j .n ≤ opCells) × (instCount j ≤ instCells) × (j .t ≤ maxSteps)
+read-limits j r = let s = job-sound (r .sheet) j (r .read) in (s .counts .ops, s .insts, s .steps)
+
+pub board-read : {b : Board} (j : Job) → WasRead j → b ≡ boardOf j → OfJob b
+board-read j r e = record { sheet = r .sheet; job = j; read = r .read; is = e }

@@ -6,5 +6,9 @@ pub mod PartLaws
 pub mod SelectionLaws
 pub mod OptionLaws
 pub mod FitLaws
+pub mod RowLaws
+pub mod ReadyLaws
+pub mod TurnLaws
 pub mod FitSteps
 pub mod LeafMeets
+pub mod ClosingLaws

@@ -128,7 +128,7 @@ module _ (b : Board) (p : Placing) (op : ℕ) where
       go true more = (ones-all (R r) (Q (put p op r)) (λ q l e. f r q l) rs (h .0), more)
       go false more = more
 
-  ones-among : (r : Option) (rs : List Option) → Among r rs → live b (put p op r) ≡ true → Among (put p op r) (liveOnes b p op rs)
+  pub ones-among : (r : Option) (rs : List Option) → Among r rs → live b (put p op r) ≡ true → Among (put p op r) (liveOnes b p op rs)
   unfolding liveOnes keepIf
   ones-among r [] h e = absurd h
   ones-among r (q ∷ rs) (inl i) e = rw (← i, e) (inl refl)

@@ -1,6 +1,6 @@
 // The smallest selection and its cost, while rows are placed one by one and at the end.
 ghost use mathlib.Core.Path.{_≡_};
-ghost use Prim.Native.Nat.{_≤_};
+ghost use Prim.Native.Nat.{_≤_, min};
 ghost use Rattle.rules.specs.Selection.{selectionCost};
 ghost use Rattle.sheets.specs.Limits.{instCells};
 ghost use Rattle.placing.specs.Costing.{reached as reachedBy, costWith};
@@ -30,6 +30,13 @@ fn cost_of<'a>(types: &'a [u16], costs: &'a [u16], lows: &'a [u16], k: usize) ->
         i += 1;
     }
     sum
+}
+
+// The lower of a type's lowest instance and i.
+pub fn lower(low: u16, i: u16) -> u16
+    ensures { λ r. ⌜ r ≡ min low i ⌝ }
+{
+    if i < low { i } else { low }
 }
 
 // The cost with instance i, where `lows` has it already, and before the cost was `here` and its type's lowest instance `low`.

@@ -2,7 +2,7 @@
 pub mod boards; // what placing asks of a job
 pub mod fitting; // one more row against a live placing
 pub mod costing; // the smallest selection and its cost
-pub mod closing; // when a claim lets a place be closed
+pub mod closing; // when a place may be closed, and what it can be split on
 
 // What placing asks of a job, for the functions below to borrow.
 pub struct Board {

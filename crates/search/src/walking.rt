@@ -1,6 +1,6 @@
 // The walk: operations are placed in number order, one level deeper each time.
 ghost use mathlib.Core.Path.{_≡_};
-ghost use Prim.Native.Nat.{_+_, _-_, _≤_, min};
+ghost use Prim.Native.Nat.{_+_, _-_, _≤_};
 ghost use Rattle.placing.specs.Options.{put};
 ghost use Rattle.search.specs.Search.{walkFrom};
 ghost use Rattle.search.specs.Walking.{boardWith, placing, optionAt, stateOf, arrival, goesOn, Walkable, Visitable, Walks};
@@ -9,17 +9,11 @@ use crate::Progress;
 use crate::Walked;
 use placing::boards::NEAR_TABLE;
 use placing::costing::cost_with;
+use placing::costing::lower;
 use placing::fitting::first_start;
 use placing::fitting::fits;
 use rules::model::UNIT_CELLS;
 use sheets::limits::*;
-
-// The lower of a type's lowest instance and i.
-fn lower(low: u16, i: u16) -> u16
-    ensures { λ r. ⌜ r ≡ min low i ⌝ }
-{
-    if i < low { i } else { low }
-}
 
 // One arrival more, at the cost `here`: it goes no further where a best is held and the cost is not below it.
 pub(crate) fn arrive(so_far: Progress, here: u32, budget: u32) -> Arrival

@@ -4,7 +4,7 @@ use mathlib.Core.Path.{_≡_, sym, _∙_}
 use mathlib.Core.List.{List}
 use native.Mathlib.Decide.{decLt}
 use native.Mathlib.Omega.{arith}
-use borrow.Author.Tests.{le-leb, lt-leb, eqb-true, eq-eqb}
+use borrow.Author.Tests.{leb-true, le-leb, lt-leb, eqb-true, eq-eqb}
 use lib.Dec.{leb, lit<}
 use lib.ListN.{length}
 use Rattle.basics.specs.Numbers.{bitsRunOut, fillBroken, formDiffers}
@@ -28,6 +28,10 @@ bytes-bits bytes end = go (decLt (8 * bytes) end)
 pub whole-none : (bytes end : ℕ) → end ≤ 8 * bytes → runsOut bytes end ≡ 0
 unfolding runsOut
 whole-none bytes end h = none-unless _ bitsRunOut (le-leb _ _ h)
+
+pub none-whole : (bytes end : ℕ) → runsOut bytes end ≡ 0 → end ≤ 8 * bytes
+unfolding runsOut
+none-whole bytes end h = leb-true end (8 * bytes) (unless-none _ bitsRunOut (lit< tt) h)
 
 module _ (s : List ℕ) where
   pub form-none : (form : ℕ) → field s 0 formBits ≡ form → formBits ≤ 8 * length s → formFault s form ≡ 0

@@ -1,0 +1,537 @@
+-- A mark is read as the definition reads it, and the loops stand where it does: an option that fits is live and is read as a child, any
+-- other is passed over; a child is read with its row placed, and the row is taken back.
+use Prim.Native.Nat.{ℕ, _+_, _-_, _*_, _<_, _≤_}
+use mathlib.Core.Path.{_≡_, refl, sym, ap, _∙_}
+use mathlib.Core.Bool.{Bool}
+use mathlib.Core.List.{List}
+use mathlib.Core.Logic.{⊎-elim}
+use native.Mathlib.Omega.{arith}
+use borrow.Author.Needs.{needs}
+use borrow.Author.Tests.{not-true, not-false}
+use borrow.Fn.Kinds.{In, Out}
+use lib.ListN.{length, set}
+use Rattle.basics.specs.Tables.{cell}
+use Rattle.sheets.specs.Limits.{opCells, instCells, typeCells, maxSteps}
+use Rattle.placing.specs.Closing.{Turn, inTurn, allowed, closable, splitOn}
+use Rattle.placing.specs.Options.{Option, put, liveOnes}
+use Rattle.placing.specs.Placing.{Placing, live}
+use Rattle.placing.specs.Ready.{boardWith, placing, optionAt, Ready}
+use Rattle.placing.specs.declared.Board.{Board}
+use Rattle.placing.specs.declared.Claim.{Claim}
+use Rattle.placing.proofs.BoardLaws.{few-insts, few-ops, few-steps, near-leads, type-small}
+use Rattle.placing.proofs.RowLaws.{row, from-start, first-positive, first-rows}
+use Rattle.placing.proofs.ReadyLaws.{restored, fits-ready, next-ready}
+use Rattle.placing.proofs.TurnLaws.{Stands, after-dead, after-live, stops-at, stands-end, begin-start, next-start}
+use Rattle.notes.specs.NoteSheet.{markBits}
+use Rattle.notes.specs.Reading.{placeAt, branchOf, Reads}
+use Rattle.notes.specs.declared.Branch.{Branch}
+use Rattle.notes.proofs.ReadLaws.{closed-turn, refused-turn, leaf-place, fault-place, close-place, split-place, split-inside, split-free, read-inside}
+use borrow.Fn.PlainCycle.{Measures, is, falls, and}
+use Rattle.notes.proofs.reading.child.Reads as child
+use Rattle.notes.proofs.reading.child.Kinds as child-kinds
+use Rattle.notes.proofs.reading.+child+place.Lts-child as child-lts
+use Rattle.notes.proofs.reading.place.Reads as place
+use Rattle.notes.proofs.reading.place.Kinds as place-kinds
+use Rattle.notes.proofs.reading.+child+place.Lts-place as place-lts
+use Rattle.notes.proofs.reading.closed_if.Reads as closed-if-reads
+use Rattle.notes.proofs.reading.mark_fault.Reads as mark-fault-reads
+use Rattle.notes.proofs.reading.split_op.Reads as split-op-reads
+use Rattle.notes.proofs.reading.splits_at.Reads as splits-at-reads
+use Rattle.placing.proofs.closing.allowed.Reads as allowed-reads
+use Rattle.placing.proofs.costing.cost_with.Reads as cost-with-reads
+use Rattle.placing.proofs.costing.lower.Reads as lower-reads
+use Rattle.placing.proofs.fitting.first_start.Reads as first-start-reads
+use Rattle.placing.proofs.fitting.fits.Reads as fits-reads
+use Rattle.notes.proofs.reading.+child+place.{statement}
+use Rattle.notes.proofs.reading.+child+place.Tie.{close}
+
+abbrev μ-child : Measures 4 child-kinds.ps ℕ
+μ-child κs a = 2 * a .1 .1 .1 .1 .1 .1 .1 .1 .1 .1 .1 .1 .1 .1 .1 .1 .1 .1 .1 .0 + 1
+
+abbrev μ-place : Measures 4 place-kinds.ps ℕ
+μ-place κs a = 2 * a .1 .1 .1 .1 .1 .1 .1 .1 .1 .1 .1 .1 .1 .1 .1 .1 .1 .1 .1 .0
+
+abbrev child-at : ℕ → In 4 child-kinds.ps
+child-at t = and 4 child-kinds.ps (is 4 child-kinds.ps μ-child t) child.Pre
+
+abbrev child-below : ℕ → In 4 child-kinds.ps
+child-below t = and 4 child-kinds.ps (falls 4 child-kinds.ps _<_ μ-child t) child.Pre
+
+abbrev place-at : ℕ → In 4 place-kinds.ps
+place-at t = and 4 place-kinds.ps (is 4 place-kinds.ps μ-place t) place.Pre
+
+abbrev place-below : ℕ → In 4 place-kinds.ps
+place-below t = and 4 place-kinds.ps (falls 4 place-kinds.ps _<_ μ-place t) place.Pre
+
+-- rows placed and taken back
+rows-back : (starts insts starts' insts' : List ℕ) (op s i : ℕ) → placing starts' insts' ≡ placing (set starts op s) (set insts op i)
+    → placing (set starts' op (cell starts op)) (set insts' op (cell insts op)) ≡ placing starts insts
+rows-back starts insts starts' insts' op s i e =
+    let a = restored op s (ap (λ (p : Placing). p .starts) e) refl in
+    let b = restored op i (ap (λ (p : Placing). p .insts) e) refl in
+    λ j. placing (a j) (b j)
+
+-- an answer that leaves everything as it was
+kept : {t : Turn ℕ} {r : Branch} {p : Placing} {lows : List ℕ} → r ≡ branchOf t → Reads t r p p lows lows
+kept e = record { answers = e; same = refl; same-lows = refl }
+
+-- ---- child
+
+abbrev child-callees : ℕ → child-lts.Claims
+child-callees t = (lower-reads.Asked, lower-reads.Learnt, cost-with-reads.Asked, cost-with-reads.Learnt, place-below t, place.Post)
+
+-- a place in the code at every measure t, and a need there
+abbrev ChildAt : ((cs : child-lts.Claims) → In 4 child-kinds.ps → Out 4 child-kinds.ps child-kinds.r → Type 0) → ℕ → Type 0
+ChildAt P t = P (child-callees t) (child-at t) child.Post
+
+abbrev ChildNeed : ((cs : child-lts.Claims) → In 4 child-kinds.ps → Out 4 child-kinds.ps child-kinds.r → Type 0) → Type 0
+ChildNeed N = (t : ℕ) → ChildAt N t
+
+-- numbers within their tables
+child-small : (t : ℕ) (c : ChildAt child-lts.Start t)
+    → let a = c .args in
+    (a .op < opCells) × (a .i < instCells) × (cell (a .types .now) (a .i) < typeCells) × (a .k ≤ instCells)
+child-small t c =
+    let w = c .pre .1 .0 in
+    let few = few-insts _ (w .able .of) in
+    (omega (arith, w .more, few-ops _ (w .able .of)), omega (arith, w .unit), type-small _ (w .able .of) _ (w .unit), few)
+
+child-mul-y : ChildNeed child-lts.Need-mul-y
+child-mul-y t c = let z = child-small t (c .before) in omega arith
+
+child-element-copy-out-y : ChildNeed child-lts.Need-element-copy-out-y
+child-element-copy-out-y t c = child-small t (c .before) .1
+
+child-cast-y : ChildNeed child-lts.Need-cast-y
+child-cast-y t c = let z = child-small t (c .before .before) in omega arith
+
+child-mul-low : ChildNeed child-lts.Need-mul-low
+child-mul-low t c = let z = child-small t (c .before .before) in omega arith
+
+child-element-copy-out-low : ChildNeed child-lts.Need-element-copy-out-low
+child-element-copy-out-low t c = child-small t (c .before .before) .2
+
+child-cast-lower : ChildNeed child-lts.Need-cast-lower
+child-cast-lower t c = let z = child-small t (c .before .before .before) in omega arith
+
+child-lower-requires : ChildNeed child-lts.Need-lower-requires
+child-lower-requires t c κs = search needs
+
+child-mul-lows : ChildNeed child-lts.Need-mul-lows
+child-mul-lows t c = let z = child-small t (c .before .before .before .before) in omega arith
+
+child-element-write-lows : ChildNeed child-lts.Need-element-write-lows
+child-element-write-lows t c = child-small t (c .before .before .before .before) .2
+
+child-cost-with-requires : ChildNeed child-lts.Need-cost-with-requires
+child-cost-with-requires t c κs = child-small t (c .before .before .before .before .before .before .before .before) .3
+
+child-mul-start-was : ChildNeed child-lts.Need-mul-start-was
+child-mul-start-was t c = let z = child-small t (c .before .before .before .before .before .before .before .before .before) in omega arith
+
+child-element-copy-out-start-was : ChildNeed child-lts.Need-element-copy-out-start-was
+child-element-copy-out-start-was t c = child-small t (c .before .before .before .before .before .before .before .before .before) .0
+
+child-mul-inst-was : ChildNeed child-lts.Need-mul-inst-was
+child-mul-inst-was t c = let z = child-small t (c .before .before .before .before .before .before .before .before .before .before) in omega arith
+
+child-element-copy-out-inst-was : ChildNeed child-lts.Need-element-copy-out-inst-was
+child-element-copy-out-inst-was t c = child-small t (c .before .before .before .before .before .before .before .before .before .before) .0
+
+child-mul-starts : ChildNeed child-lts.Need-mul-starts
+child-mul-starts t c = let z = child-small t (c .before .before .before .before .before .before .before .before .before .before .before) in omega arith
+
+child-element-write-starts : ChildNeed child-lts.Need-element-write-starts
+child-element-write-starts t c = child-small t (c .before .before .before .before .before .before .before .before .before .before .before) .0
+
+child-cast-insts : ChildNeed child-lts.Need-cast-insts
+child-cast-insts t c = let z = child-small t (c .before .before .before .before .before .before .before .before .before .before .before) in omega arith
+
+child-mul-insts : ChildNeed child-lts.Need-mul-insts
+child-mul-insts t c = let z = child-small t (c .before .before .before .before .before .before .before .before .before .before .before) in omega arith
+
+child-element-write-insts : ChildNeed child-lts.Need-element-write-insts
+child-element-write-insts t c = child-small t (c .before .before .before .before .before .before .before .before .before .before .before) .0
+
+child-place-requires : ChildNeed child-lts.Need-place-requires
+child-place-requires t c κs = 
+    let s = c .before .before .before .before .before .before .before .before .before .before .before .before .before .before in
+    let w = s .pre .1 in
+    (omega (arith, s .pre .0), (next-ready (w .0) _ (omega arith) (w .0 .more) (omega arith) refl (c .before .before .before .before .before .before .before .before .before .before .lower .ensures) (c .before .before .before .before .before .cost-with .ensures), w .1, w .2, w .3))
+
+child-mul-starts-2 : ChildNeed child-lts.Need-mul-starts-2
+child-mul-starts-2 t c = let z = child-small t (c .before .before .before .before .before .before .before .before .before .before .before .before .before .before .before) in omega arith
+
+child-element-write-starts-2 : ChildNeed child-lts.Need-element-write-starts-2
+child-element-write-starts-2 t c = child-small t (c .before .before .before .before .before .before .before .before .before .before .before .before .before .before .before) .0
+
+child-mul-insts-2 : ChildNeed child-lts.Need-mul-insts-2
+child-mul-insts-2 t c = let z = child-small t (c .before .before .before .before .before .before .before .before .before .before .before .before .before .before .before) in omega arith
+
+child-element-write-insts-2 : ChildNeed child-lts.Need-element-write-insts-2
+child-element-write-insts-2 t c = child-small t (c .before .before .before .before .before .before .before .before .before .before .before .before .before .before .before) .0
+
+child-mul-lows-2 : ChildNeed child-lts.Need-mul-lows-2
+child-mul-lows-2 t c = let z = child-small t (c .before .before .before .before .before .before .before .before .before .before .before .before .before .before .before) in omega arith
+
+child-element-write-lows-2 : ChildNeed child-lts.Need-element-write-lows-2
+child-element-write-lows-2 t c = child-small t (c .before .before .before .before .before .before .before .before .before .before .before .before .before .before .before) .2
+
+child-returns : ChildNeed child-lts.Need-returns
+child-returns t c = 
+    let r = c .place .ensures in
+    record {
+      answers = r .answers;
+      same = rows-back _ _ _ _ _ _ _ (r .same);
+      same-lows = restored _ _ (r .same-lows) refl;
+    }
+
+-- ---- place
+
+abbrev place-Inv-loop2 : place-lts.InvT-loop2
+place-Inv-loop2 n k t e wire clock from to types costs times delays spacings lasts near note width claim at left here starts₀ insts₀ lows₀ may fault op next₀ s i₀ starts insts lows next i =
+    (1 ≤ s) × (s ≤ t) × (i ≤ k) × (next ≤ 8 * length note)
+    × Stands (boardWith n k t e wire clock from to types costs times delays spacings lasts near) n op here (placeAt note width (boardWith n k t e wire clock from to types costs times delays spacings lasts near) claim (left - 1)) (placing starts₀ insts₀) lows₀
+    (inTurn (placeAt note width (boardWith n k t e wire clock from to types costs times delays spacings lasts near) claim (left - 1)) (liveOnes (boardWith n k t e wire clock from to types costs times delays spacings lasts near) (placing starts₀ insts₀) op (row (boardWith n k t e wire clock from to types costs times delays spacings lasts near) s i₀)) next₀)
+    (placing starts insts) lows next (row (boardWith n k t e wire clock from to types costs times delays spacings lasts near) s i)
+
+abbrev place-μ-loop2 : place-lts.MeasureT-loop2
+place-μ-loop2 n k t e wire clock from to types costs times delays spacings lasts near note width claim at left here starts₀ insts₀ lows₀ may fault op next₀ s i₀ starts insts lows next i =
+    k - i
+
+abbrev place-Inv-loop : place-lts.InvT-loop
+place-Inv-loop n k t e wire clock from to types costs times delays spacings lasts near note width claim at left here starts₀ insts₀ lows₀ may fault op next₀ s₀ starts insts lows next s =
+    (1 ≤ s) × (next ≤ 8 * length note)
+    × Stands (boardWith n k t e wire clock from to types costs times delays spacings lasts near) n op here (placeAt note width (boardWith n k t e wire clock from to types costs times delays spacings lasts near) claim (left - 1)) (placing starts₀ insts₀) lows₀
+    (inTurn (placeAt note width (boardWith n k t e wire clock from to types costs times delays spacings lasts near) claim (left - 1)) (liveOnes (boardWith n k t e wire clock from to types costs times delays spacings lasts near) (placing starts₀ insts₀) op (from-start (boardWith n k t e wire clock from to types costs times delays spacings lasts near) s₀)) next₀)
+    (placing starts insts) lows next (from-start (boardWith n k t e wire clock from to types costs times delays spacings lasts near) s)
+
+abbrev place-μ-loop : place-lts.MeasureT-loop
+place-μ-loop n k t e wire clock from to types costs times delays spacings lasts near note width claim at left here starts₀ insts₀ lows₀ may fault op next₀ s₀ starts insts lows next s =
+    t + 1 - s
+
+abbrev place-callees : ℕ → place-lts.Claims
+place-callees t = (allowed-reads.Asked, allowed-reads.Learnt, closed-if-reads.Asked, closed-if-reads.Learnt, mark-fault-reads.Asked, mark-fault-reads.Learnt, splits-at-reads.Asked, splits-at-reads.Learnt, split-op-reads.Asked, split-op-reads.Learnt, first-start-reads.Asked, first-start-reads.Learnt, fits-reads.Asked, fits-reads.Learnt, child-below t, child.Post)
+
+abbrev PlaceAt : ((cs : place-lts.Claims) → In 4 place-kinds.ps → Out 4 place-kinds.ps place-kinds.r → place-lts.InvT-loop2 → place-lts.MeasureT-loop2
+    → place-lts.InvT-loop → place-lts.MeasureT-loop → Type 0) → ℕ → Type 0
+PlaceAt P t = P (place-callees t) (place-at t) place.Post place-Inv-loop2 place-μ-loop2 place-Inv-loop place-μ-loop
+
+abbrev PlaceNeed : ((cs : place-lts.Claims) → In 4 place-kinds.ps → Out 4 place-kinds.ps place-kinds.r → place-lts.InvT-loop2 → place-lts.MeasureT-loop2
+    → place-lts.InvT-loop → place-lts.MeasureT-loop → Type 0) → Type 0
+PlaceNeed N = (t : ℕ) → PlaceAt N t
+
+-- the code's test is whether the place may be closed
+may-close : {b : Board} (claim : Claim) {reach here : ℕ} {p : Placing} {lows : List ℕ} {may : Bool} → may ≡ allowed claim here → Ready b reach p lows here
+    → may ≡ closable b claim p
+may-close {b} claim e w = e ∙ ap (allowed claim) (w .tracks .costs)
+
+-- the mark splits on an operation that is not placed, ends inside the note, and its children are what is left of the place
+op-free : (t : ℕ) (c : PlaceAt place-lts.After-split-op t)
+    → let a = c .before .before .before .before .before .before .before .before .before .before .args in
+    (c .split-op .result < a .n) × (cell (a .starts .now) (c .split-op .result) ≡ 0)
+op-free t c = rw (c .split-op .ensures) (split-free _ _ _ _ _ _ (may-close _ (c .before .before .before .before .before .before .before .before .allowed .ensures) (c .before .before .before .before .before .before .before .before .before .before .pre .1 .0)) (c .before .before .before .before .before .before .before .if1 .left) (c .before .before .before .before .mark-fault .ensures) (c .before .before .before .if2 .left) (sym (c .before .before .splits-at .ensures) ∙ not-false _ (c .before .if3 .left)))
+
+next-inside : (t : ℕ) (c : PlaceAt place-lts.After-split-op t) → let a = c .before .before .before .before .before .before .before .before .before .before .args in a .at + markBits + a .width ≤ 8 * length (a .note .now)
+next-inside t c = split-inside _ _ _ _ _ _ (may-close _ (c .before .before .before .before .before .before .before .before .allowed .ensures) (c .before .before .before .before .before .before .before .before .before .before .pre .1 .0)) (c .before .before .before .before .before .before .before .if1 .left) (c .before .before .before .before .mark-fault .ensures) (c .before .before .before .if2 .left) (sym (c .before .before .splits-at .ensures) ∙ not-false _ (c .before .if3 .left))
+
+from-mark : (t : ℕ) (c : PlaceAt place-lts.After-first-start t)
+    → let a = c .before .before .before .before .before .before .before .before .before .before .before .before .before .before .args in
+    let b = (boardWith (a .n) (a .k) (a .t) (a .e) (a .wire) (a .clock) (a .from .now) (a .to .now) (a .types .now) (a .costs .now) (a .times .now) (a .delays .now) (a .spacings .now) (a .lasts .now) (a .near .now)) in
+    let p = placing (a .starts .now) (a .insts .now) in
+    placeAt (a .note .now) (a .width) b (a .claim) (a .left) p (a .at)
+    ≡ inTurn (placeAt (a .note .now) (a .width) b (a .claim) (a .left - 1)) (liveOnes b p (c .before .before .before .before .split-op .result) (from-start b (c .first-start .result))) (a .at + markBits + a .width)
+from-mark t c =
+    let s = c .before .before .before .before .before .before .before .before .before .before .before .before .before .before in
+    let a = s .args in
+    let b = (boardWith (a .n) (a .k) (a .t) (a .e) (a .wire) (a .clock) (a .from .now) (a .to .now) (a .types .now) (a .costs .now) (a .times .now) (a .delays .now) (a .spacings .now) (a .lasts .now) (a .near .now)) in
+    let p = placing (a .starts .now) (a .insts .now) in
+    let w = s .pre .1 .0 in
+    let f = placeAt (a .note .now) (a .width) b (a .claim) (a .left - 1) in
+    let e = c .before .before .before .before .split-op .ensures in
+    split-place (a .note .now) (a .width) b (a .claim) p (a .at) (may-close _ (c .before .before .before .before .before .before .before .before .before .before .before .before .allowed .ensures) w) (c .before .before .before .before .before .before .before .before .before .before .before .if1 .left) (c .before .before .before .before .before .before .before .before .mark-fault .ensures) (c .before .before .before .before .before .before .before .if2 .left) (sym (c .before .before .before .before .before .before .splits-at .ensures) ∙ not-false _ (c .before .before .before .before .before .if3 .left))
+    ∙ ap (λ (o : ℕ). inTurn f (splitOn b p o) (a .at + markBits + a .width)) (sym e)
+    ∙ ap (λ (ps : List Placing). inTurn f ps (a .at + markBits + a .width)) (first-rows b (w .of) p (w .starts-long) (w .insts-long) (c .before .before .before .before .split-op .result) (op-free t (c .before .before .before .before) .0) (c .first-start .result) (c .first-start .ensures))
+
+-- numbers within their tables, at an option
+place-small : (t : ℕ) (c : PlaceAt place-lts.In-loop2 t)
+    → let a = c .before .before .before .before .before .before .before .before .before .before .before .before .before .before .before .before .before .before .args in
+    (c .before .before .before .before .before .before .before .before .split-op .result < opCells) × (a .k ≤ instCells) × (a .t ≤ maxSteps) × (a .n ≤ opCells)
+place-small t c =
+    let w = c .before .loop2 .inv .4 in
+    (omega (arith, w .more, few-ops _ (w .able .of)), few-insts _ (w .able .of), few-steps _ (w .able .of), few-ops _ (w .able .of))
+
+-- the options that are left lead to the end of the whole place
+leads-whole : (t : ℕ) (c : PlaceAt place-lts.In-loop2 t)
+    → let a = c .before .before .before .before .before .before .before .before .before .before .before .before .before .before .before .before .before .before .args in
+    let b = (boardWith (a .n) (a .k) (a .t) (a .e) (a .wire) (a .clock) (a .from .now) (a .to .now) (a .types .now) (a .costs .now) (a .times .now) (a .delays .now) (a .spacings .now) (a .lasts .now) (a .near .now)) in
+    let w = c .before .loop2 in
+    inTurn (placeAt (a .note .now) (a .width) b (a .claim) (a .left - 1)) (liveOnes b (placing (w .starts) (w .insts)) (c .before .before .before .before .before .before .before .before .split-op .result) (row b (c .before .before .before .loop .s) (w .i))) (w .next)
+    ≡ placeAt (a .note .now) (a .width) b (a .claim) (a .left) (placing (a .starts .now) (a .insts .now)) (a .at)
+leads-whole t c =
+    c .before .loop2 .inv .4 .leads ∙ begin-start _ (c .before .before .before .loop .inv .2) (c .before .before .loop-test .taken) ∙ sym (from-mark t (c .before .before .before .before))
+
+-- and nothing has changed
+whole-same : (t : ℕ) (c : PlaceAt place-lts.In-loop2 t)
+    → let a = c .before .before .before .before .before .before .before .before .before .before .before .before .before .before .before .before .before .before .args in
+    let w = c .before .loop2 in
+    (placing (w .starts) (w .insts) ≡ placing (a .starts .now) (a .insts .now)) × (w .lows ≡ a .lows .now)
+whole-same t c =
+    let inner = c .before .loop2 .inv .4 in
+    let outer = c .before .before .before .loop .inv .2 in
+    (inner .same ∙ outer .same, inner .same-lows ∙ outer .same-lows)
+
+-- where a loop stands, on the way to another end
+stands-whole : {b : Board} {reach op here : ℕ} {f : Placing → ℕ → Turn ℕ} {p₀ p : Placing} {lows₀ lows : List ℕ} {u v : Turn ℕ} {x : ℕ} {rs : List Option}
+    → Stands b reach op here f p₀ lows₀ u p lows x rs → inTurn f (liveOnes b p op rs) x ≡ v → Stands b reach op here f p lows v p lows x rs
+stands-whole w e = record { able = w .able; more = w .more; free = w .free; same = refl; same-lows = refl; leads = e }
+
+-- an option is live exactly where the code's test holds
+lives : (t : ℕ) (c : PlaceAt place-lts.After-fits2 t)
+    → let a = c .before .before .before .before .before .before .before .before .before .before .before .before .before .before .before .before .before .before .before .before .before .before .before .before .before .before .before .args in
+    let w = c .before .before .before .before .before .before .before .before .before .before .loop2 in
+    live (boardWith (a .n) (a .k) (a .t) (a .e) (a .wire) (a .clock) (a .from .now) (a .to .now) (a .types .now) (a .costs .now) (a .times .now) (a .delays .now) (a .spacings .now) (a .lasts .now) (a .near .now)) (put (placing (w .starts) (w .insts)) (c .before .before .before .before .before .before .before .before .before .before .before .before .before .before .before .before .before .split-op .result) (optionAt (c .before .before .before .before .before .before .before .before .before .before .before .before .loop .s) (w .i))) ≡ c .fits2 .result
+lives t c =
+    let w = c .before .before .before .before .before .before .before .before .before .before .loop2 .inv in
+    fits-ready (w .4 .able) (w .4 .more) (w .4 .free) _ _ (w .0) (c .before .before .before .before .before .before .before .before .before .loop2-test .taken) (c .fits2 .ensures)
+
+place-allowed-requires : PlaceNeed place-lts.Need-allowed-requires
+place-allowed-requires t c κs = search needs
+
+place-closed-if-requires : PlaceNeed place-lts.Need-closed-if-requires
+place-closed-if-requires t c κs = search needs
+
+place-returns : PlaceNeed place-lts.Need-returns
+place-returns t c = kept (leaf-place _ _ _ _ _ _ (may-close _ (c .before .before .allowed .ensures) (c .before .before .before .before .pre .1 .0)) (c .before .if1 .taken) (c .closed-if .ensures))
+
+place-mark-fault-requires : PlaceNeed place-lts.Need-mark-fault-requires
+place-mark-fault-requires t c κs = let w = c .before .before .before .before .before .pre .1 in (w .3, omega (arith, w .1, w .2))
+
+place-returns-2 : PlaceNeed place-lts.Need-returns-2
+place-returns-2 t c = kept (fault-place _ _ _ _ _ _ (may-close _ (c .before .before .before .before .before .allowed .ensures) (c .before .before .before .before .before .before .before .pre .1 .0)) (c .before .before .before .before .if1 .left) (c .before .mark-fault .ensures) (c .if2 .taken))
+
+place-splits-at-requires : PlaceNeed place-lts.Need-splits-at-requires
+place-splits-at-requires t c κs = let w = c .before .before .before .before .before .before .before .pre .1 in omega (arith, w .1, w .2)
+
+place-add-t37 : PlaceNeed place-lts.Need-add-t37
+place-add-t37 t c = let w = c .before .before .before .before .before .before .before .before .before .pre .1 in omega (arith, w .1, w .2)
+
+place-returns-3 : PlaceNeed place-lts.Need-returns-3
+place-returns-3 t c = kept (close-place _ _ _ _ _ _ (may-close _ (c .before .before .before .before .before .before .before .allowed .ensures) (c .before .before .before .before .before .before .before .before .before .pre .1 .0)) (c .before .before .before .before .before .before .if1 .left) (c .before .before .before .mark-fault .ensures) (c .before .before .if2 .left) (sym (c .before .splits-at .ensures) ∙ not-true _ (c .if3 .taken)))
+
+place-split-op-requires : PlaceNeed place-lts.Need-split-op-requires
+place-split-op-requires t c κs = let w = c .before .before .before .before .before .before .before .before .before .pre .1 in (w .3, omega (arith, w .1, w .2))
+
+place-add-next : PlaceNeed place-lts.Need-add-next
+place-add-next t c = let w = c .before .before .before .before .before .before .before .before .before .before .pre .1 in omega (arith, w .1, w .2)
+
+place-add-next-2 : PlaceNeed place-lts.Need-add-next-2
+place-add-next-2 t c = let w = c .before .before .before .before .before .before .before .before .before .before .pre .1 in omega (arith, w .1, w .2, w .3)
+
+place-first-start-requires : PlaceNeed place-lts.Need-first-start-requires
+place-first-start-requires t c κs = 
+    let f = op-free t (c .before .before .before) in
+    let w = c .before .before .before .before .before .before .before .before .before .before .before .before .before .pre .1 .0 in
+    (omega (arith, f .0, few-ops _ (w .of)), near-leads _ (w .of) _ (f .0))
+
+place-loop-holds : PlaceNeed place-lts.Need-loop-holds
+place-loop-holds t c = 
+    let f = op-free t (c .before .before .before .before) in
+    let e = c .first-start .ensures in
+    (
+      rw e (first-positive _ _ _ _ _ _),
+      next-inside t (c .before .before .before .before),
+      record { able = c .before .before .before .before .before .before .before .before .before .before .before .before .before .before .pre .1 .0; more = f .0; free = f .1; same = refl; same-lows = refl; leads = refl },
+    )
+
+place-loop2-holds : PlaceNeed place-lts.Need-loop2-holds
+place-loop2-holds t c = 
+    let v = c .before .loop .inv in
+    (v .0, c .loop-test .taken, omega arith, v .1, record { able = v .2 .able; more = v .2 .more; free = v .2 .free; same = refl; same-lows = refl; leads = refl })
+
+place-cast-fits : PlaceNeed place-lts.Need-cast-fits
+place-cast-fits t c = let z = place-small t (c .before .before .before .before .before .before .before .before) in omega (arith, c .before .before .before .before .before .before .before .before .before .loop2 .inv .1)
+
+place-fits-requires : PlaceNeed place-lts.Need-fits-requires
+place-fits-requires t c κs = 
+    let o = c .before .before .before .before .before .before .before .before .before .loop2 .inv .4 in
+    let z = place-small t (c .before .before .before .before .before .before .before .before) in
+    (z .3, z .0, omega arith, o .able .starts-long, near-leads _ (o .able .of) _ (o .more))
+
+place-sub-child : PlaceNeed place-lts.Need-sub-child
+place-sub-child t c = let z = c .before .before .before .before .before .before .before .before .before .before .before .before .before .before .before .before .before .before .before .before .before .before .before .before .before .if1 .left in omega (arith, z)
+
+place-cast-child : PlaceNeed place-lts.Need-cast-child
+place-cast-child t c = let z = place-small t (c .before .before .before .before .before .before .before .before .before .before) in omega (arith, c .before .before .before .before .before .before .before .before .before .before .before .loop2 .inv .1)
+
+place-child-requires : PlaceNeed place-lts.Need-child-requires
+place-child-requires t c κs = 
+    let o = c .before .before .before .before .before .before .before .before .before .before .before .before .before .before .loop2 .inv in
+    let s = c .before .before .before .before .before .before .before .before .before .before .before .before .before .before .before .before .before .before .before .before .before .before .before .before .before .before .before .before .before .before .before in (
+      omega (arith, s .pre .0, c .before .before .before .before .before .before .before .before .before .before .before .before .before .before .before .before .before .before .before .before .before .before .before .before .before .before .before .before .if1 .left),
+      (
+        record {
+          able = o .4 .able;
+          more = o .4 .more;
+          free = o .4 .free;
+          begins = o .0;
+          unit = c .before .before .before .before .before .before .before .before .before .before .before .before .before .loop2-test .taken;
+          lives = lives t (c .before .before .before .before) ∙ c .before .before .before .if4 .taken;
+        },
+        s .pre .1 .1,
+        o .3,
+        s .pre .1 .3,
+      ),
+    )
+
+place-enum-known-branch : PlaceNeed place-lts.Need-enum-known-branch
+place-enum-known-branch t c = search needs
+
+place-enum-told : PlaceNeed place-lts.Need-enum-told
+place-enum-told t c = search needs
+
+place-returns-4 : PlaceNeed place-lts.Need-returns-4
+place-returns-4 t c = 
+    let o = c .before .before .before .before .before .before .before .before .before .before .before .before .before .before .before .before .before .loop2 .inv .4 in
+    let l = lives t (c .before .before .before .before .before .before .before) ∙ c .before .before .before .before .before .before .if4 .taken in
+    let r = c .before .before .child .ensures in
+    let e = c .enum-told .given .1 in
+    record {
+      answers = e ∙ ap branchOf (sym (stops-at _ _ (stands-whole o (leads-whole t (c .before .before .before .before .before .before .before .before .before .before .before .before .before .before .before .before))) (c .before .before .before .before .before .before .before .before .before .before .before .before .before .before .before .before .loop2-test .taken) l (refused-turn _ (r .answers) e)));
+      same = r .same ∙ whole-same t (c .before .before .before .before .before .before .before .before .before .before .before .before .before .before .before .before) .0;
+      same-lows = r .same-lows ∙ whole-same t (c .before .before .before .before .before .before .before .before .before .before .before .before .before .before .before .before) .1;
+    }
+
+place-add-i : PlaceNeed place-lts.Need-add-i
+place-add-i t c = let z = place-small t (c .before .before .before .before .before .before .before .before .before .before) in omega arith
+
+place-loop2-less : PlaceNeed place-lts.Need-loop2-less
+place-loop2-less t c = let z = place-small t (c .before .before .before .before .before .before .before .before .before .before) in omega arith
+
+place-loop2-again : PlaceNeed place-lts.Need-loop2-again
+place-loop2-again t c = 
+    let o = c .before .before .before .before .before .before .before .before .before .before .before .loop2 .inv in
+    let l = c .before .before .before .before .before .before .before .before .before .before .loop2-test .taken in (
+      o .0,
+      o .1,
+      omega arith,
+      ⊎-elim
+          (λ y. rw (y .11) (read-inside _ _ _ _ _ _ _ _ (closed-turn _ (y .4 .ensures .answers) (y .6 .given .1)) (o .3)))
+          (λ y. rw (y .4) (o .3))
+          (c .if4 .came),
+      ⊎-elim
+          (λ y. after-live _ _ (o .4) l (lives t (c .before) ∙ y .0 .taken) (closed-turn _ (y .4 .ensures .answers) (y .6 .given .1)) (y .4 .ensures .same) (y .4 .ensures .same-lows) (y .8) (y .9) (y .10) (y .11))
+          (λ y. after-dead _ _ (o .4) l (lives t (c .before) ∙ y .0 .left) (y .1) (y .2) (y .3) (y .4))
+          (c .if4 .came),
+    )
+
+place-add-s : PlaceNeed place-lts.Need-add-s
+place-add-s t c = let z = few-steps _ (c .before .loop2 .inv .4 .able .of) in omega (arith, c .before .loop2 .inv .1)
+
+place-loop-less : PlaceNeed place-lts.Need-loop-less
+place-loop-less t c = omega (arith, c .before .before .loop-test .taken)
+
+place-loop-again : PlaceNeed place-lts.Need-loop-again
+place-loop-again t c = 
+    (omega arith, c .before .loop2 .inv .3, next-start _ _ (c .before .before .before .loop .inv .2) (c .before .before .loop-test .taken) (c .before .loop2 .inv .4) (c .loop2-test .left))
+
+place-returns-5 : PlaceNeed place-lts.Need-returns-5
+place-returns-5 t c = 
+    let v = c .before .loop .inv .2 in
+    record {
+      answers = ap branchOf (sym (from-mark t (c .before .before) ∙ stands-end _ v (c .loop-test .left)));
+      same = v .same;
+      same-lows = v .same-lows;
+    }
+
+pub +child+place-spec : {M : Type 1} → statement M
++child+place-spec = close μ-child μ-place (λ t. child-lts.spec (
+  lower-reads.Asked,
+  lower-reads.Learnt,
+  cost-with-reads.Asked,
+  cost-with-reads.Learnt,
+  place-below t,
+  place.Post,
+)
+    (child-at t)
+    child.Post
+    (child-mul-y t)
+    (child-element-copy-out-y t)
+    (child-cast-y t)
+    (child-mul-low t)
+    (child-element-copy-out-low t)
+    (child-cast-lower t)
+    (child-lower-requires t)
+    (child-mul-lows t)
+    (child-element-write-lows t)
+    (child-cost-with-requires t)
+    (child-mul-start-was t)
+    (child-element-copy-out-start-was t)
+    (child-mul-inst-was t)
+    (child-element-copy-out-inst-was t)
+    (child-mul-starts t)
+    (child-element-write-starts t)
+    (child-cast-insts t)
+    (child-mul-insts t)
+    (child-element-write-insts t)
+    (child-place-requires t)
+    (child-mul-starts-2 t)
+    (child-element-write-starts-2 t)
+    (child-mul-insts-2 t)
+    (child-element-write-insts-2 t)
+    (child-mul-lows-2 t)
+    (child-element-write-lows-2 t)
+    (child-returns t))
+    λ t. place-lts.spec (
+      allowed-reads.Asked,
+      allowed-reads.Learnt,
+      closed-if-reads.Asked,
+      closed-if-reads.Learnt,
+      mark-fault-reads.Asked,
+      mark-fault-reads.Learnt,
+      splits-at-reads.Asked,
+      splits-at-reads.Learnt,
+      split-op-reads.Asked,
+      split-op-reads.Learnt,
+      first-start-reads.Asked,
+      first-start-reads.Learnt,
+      fits-reads.Asked,
+      fits-reads.Learnt,
+      child-below t,
+      child.Post,
+    )
+    (place-at t)
+    place.Post
+    place-Inv-loop2
+    place-μ-loop2
+    place-Inv-loop
+    place-μ-loop
+    (place-allowed-requires t)
+    (place-closed-if-requires t)
+    (place-returns t)
+    (place-mark-fault-requires t)
+    (place-returns-2 t)
+    (place-splits-at-requires t)
+    (place-add-t37 t)
+    (place-returns-3 t)
+    (place-split-op-requires t)
+    (place-add-next t)
+    (place-add-next-2 t)
+    (place-first-start-requires t)
+    (place-loop-holds t)
+    (place-loop2-holds t)
+    (place-cast-fits t)
+    (place-fits-requires t)
+    (place-sub-child t)
+    (place-cast-child t)
+    (place-child-requires t)
+    (place-enum-known-branch t)
+    (place-enum-told t)
+    (place-returns-4 t)
+    (place-add-i t)
+    (place-loop2-less t)
+    (place-loop2-again t)
+    (place-add-s t)
+    (place-loop-less t)
+    (place-loop-again t)
+    (place-returns-5 t)

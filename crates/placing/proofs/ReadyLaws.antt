@@ -1,0 +1,84 @@
+-- What a function that places one more row can say of it. The code's test is whether the option is live: `fits-ready`, in whatever
+-- order rows are placed, and `fits-in-order` in number order. With the row the board is ready for the next one: `next-ready`; with
+-- nothing placed it is: `none-ready`. A row that is taken back leaves what was there: `restored`.
+use Prim.Native.Nat.{ℕ, _≤_, _<_, min}
+use mathlib.Core.Path.{_≡_, refl, sym, ap₂, _∙_}
+use mathlib.Core.Bool.{Bool, false}
+use mathlib.Core.List.{List}
+use native.Mathlib.Omega.{arith}
+use borrow.Author.Tests.{ltb-true}
+use lib.Dec.{ltb}
+use lib.ListN.{set, length-set, replicate}
+use lib.Seq.{set-set, set-getD, getD-set-other}
+use Rattle.basics.specs.Tables.{cell}
+use Rattle.basics.proofs.TableLaws.{cell-replicate}
+use Rattle.sheets.specs.Limits.{opCells, instCells, typeCells}
+use Rattle.placing.specs.declared.Board.{Board}
+use Rattle.placing.specs.Board.{OfJob, unit}
+use Rattle.placing.specs.Costing.{costWith}
+use Rattle.placing.specs.Fitting.{fits, firstStart}
+use Rattle.placing.specs.Options.{none, put}
+use Rattle.placing.specs.Placing.{Placing, live}
+use Rattle.placing.specs.Ready.{optionAt, Ready, Places}
+use Rattle.placing.proofs.CostLaws.{tracks-none, tracks-put}
+use Rattle.placing.proofs.FitLaws.{fits-live, settled-links}
+use Rattle.placing.proofs.PartLaws.{none-live}
+
+-- a store over the one before it brings the old value back
+pub restored : {l l' : List ℕ} {x : ℕ} (at y : ℕ) → l' ≡ set l at y → x ≡ cell l at → set l' at x ≡ l
+restored {l} {l'} {x} at y p q = ap₂ (λ (xs : List ℕ) (z : ℕ). set xs at z) p q ∙ set-set l at y (cell l at) ∙ set-getD l at 0
+
+-- ---- the code's test is whether the option is live
+
+-- in whatever order rows are placed
+pub fits-ready : {b : Board} {reach op : ℕ} {p : Placing} {lows : List ℕ} {here : ℕ} (w : Ready b reach p lows here) → op < b .n → cell (p .starts) op ≡ 0
+    → {r : Bool} (s i : ℕ) → 1 ≤ s → i < b .k
+    → r ≡ fits (b .from) (b .to) (b .e) (b .wire) (b .clock) (b .times) (b .delays) (b .spacings) (b .lasts) (b .near) (p .starts) (p .insts) false reach op s i
+    → live b (put p op (optionAt s i)) ≡ r
+fits-ready {b} {reach} {op} {p} w more free s i a l e =
+    sym (e ∙ fits-live b (w .of) p (w .starts-long) (w .insts-long) (w .alive) false reach op s i
+    (λ h. absurd (let z : _≡_ {A = ℕ} 0 1 = cc in omega arith)) (w .behind) (w .few) more l a free)
+
+-- in number order links are settled behind the first start
+pub fits-in-order : {b : Board} {op : ℕ} {p : Placing} {lows : List ℕ} {here : ℕ} (w : Ready b op p lows here) → op < b .n
+    → {r : Bool} (first s i : ℕ) → first ≡ firstStart (b .delays) (b .near) (p .starts) (p .insts) op op → 1 ≤ s → i < b .k
+    → r ≡ fits (b .from) (b .to) (b .e) (b .wire) (b .clock) (b .times) (b .delays) (b .spacings) (b .lasts) (b .near) (p .starts) (p .insts) (ltb first s) op op s i
+    → live b (put p op (optionAt s i)) ≡ r
+fits-in-order {b} {op} {p} w more first s i f a l e =
+    sym (e ∙ fits-live b (w .of) p (w .starts-long) (w .insts-long) (w .alive) (ltb first s) op op s i
+    (λ h. settled-links (b .delays) (b .near) (p .starts) (p .insts) op (b .times) (b .wire) (b .clock) s (unit (b .times) op i) (unit (b .delays) op i) (rw f at (ltb-true first s h)))
+    (w .behind) (w .few) more l a (w .behind op (omega arith)))
+
+-- ---- from row to row
+
+-- with one more row
+pub next-ready : {b : Board} {reach op : ℕ} {p : Placing} {lows : List ℕ} {here s i : ℕ} (w : Places b reach op p lows here s i) (reach' : ℕ)
+    → reach ≤ reach' → op < reach' → reach' ≤ b .n → {low lowest cost' : ℕ}
+    → low ≡ cell lows (cell (b .types) i) → lowest ≡ min low i → cost' ≡ costWith (b .types) (b .costs) (set lows (cell (b .types) i) lowest) (b .k) here low i
+    → Ready b reach' (put p op (optionAt s i)) (set lows (cell (b .types) i) lowest) cost'
+next-ready {b} {reach} {op} {p} {lows} {here} {s} {i} v reach' up past few {low} {lowest} e m q =
+    let w = v .able in
+    record {
+      of = w .of;
+      few = few;
+      alive = v .lives;
+      behind = λ x k. getD-set-other (p .starts) op x s 0 (omega arith) ∙ w .behind x (omega arith);
+      tracks = rw (q, m, e) (tracks-put b (w .of) p (w .starts-long) (w .insts-long) lows here (w .lows-long) (w .tracks) op s i (v .more) (v .free) (v .begins) (v .unit));
+      starts-long = length-set (p .starts) op s ∙ w .starts-long;
+      insts-long = length-set (p .insts) op i ∙ w .insts-long;
+      lows-long = length-set lows (cell (b .types) i) lowest ∙ w .lows-long;
+    }
+
+-- nothing placed
+pub none-ready : (b : Board) → OfJob b → (reach : ℕ) → reach ≤ b .n → Ready b reach none (replicate typeCells instCells) 0
+none-ready b of reach few =
+    record {
+      of = of;
+      few = few;
+      alive = none-live b of;
+      behind = λ o l. cell-replicate opCells o;
+      tracks = tracks-none b of;
+      starts-long = refl;
+      insts-long = refl;
+      lows-long = refl;
+    }
