@@ -1,0 +1,5 @@
+pub mod HouseLaws
+pub mod DraftLaws
+pub mod HouseBoard
+pub mod NoteWritten
+pub mod WriteLaws

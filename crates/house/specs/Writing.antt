@@ -16,6 +16,7 @@ use Rattle.placing.specs.declared.Claim.{Claim}
 use Rattle.notes.specs.NoteSheet.{headFields, splitBits}
 use Rattle.notes.specs.Reading.{branchOf}
 use Rattle.notes.specs.declared.Branch.{Branch}
+use Rattle.notes.specs.declared.Branch.the-variants.{Closed}
 use Rattle.house.specs.House.{nextOp, write}
 
 pub record Draft : Type 0 where
@@ -45,15 +46,17 @@ draftEnd (stops number) = stops number
 pub record InOrder (p : Placing) (op : ℕ) : Type 0 where
   pub below : (o : ℕ) → o < op → 1 ≤ cell (p .starts) o
 
--- where the definition's turn is t: the answer, the bytes where it goes on, and the rows as they came
-pub record Writes (t : Turn Draft) (r : Branch) (out out' : List ℕ) (p p' : Placing) (lows lows' : List ℕ) : Type 0 where
+-- where the definition's turn is t: the answer, the bytes where it goes on, its end in the room, and the rows as they came
+pub record Writes (room : ℕ) (t : Turn Draft) (r : Branch) (sheet sheet' : List ℕ) (p p' : Placing) (lows lows' : List ℕ) : Type 0 where
   pub answers : r ≡ branchOf (draftEnd t)
-  pub bytes : (x : Draft) → t ≡ goes x → out' ≡ x .bytes
-  pub size : length out' ≡ length out
+  pub bytes : (x : Draft) → t ≡ goes x → sheet' ≡ x .bytes
+  pub inside : (end : ℕ) → r ≡ Closed end → end ≤ room
+  pub size : length sheet' ≡ length sheet
   pub same : p' ≡ p
   pub same-lows : lows' ≡ lows
 
 -- the same of the whole note
-pub record Drafts (t : Turn Draft) (r : Branch) (sheet' : List ℕ) : Type 0 where
+pub record Drafts (room : ℕ) (t : Turn Draft) (r : Branch) (sheet' : List ℕ) : Type 0 where
   pub answers : r ≡ branchOf (draftEnd t)
   pub bytes : (x : Draft) → t ≡ goes x → sheet' ≡ x .bytes
+  pub inside : (end : ℕ) → r ≡ Closed end → end ≤ room

@@ -10,7 +10,7 @@ ghost use Rattle.house.specs.Writing.{draft, writeAt, InOrder, Writes};
 use basics::OUTPUT_SHORT;
 use bits::put;
 use notes::Branch;
-use notes::reading::MARK_BITS;
+use notes::limits::MARK_BITS;
 use notes::reading::closed_if;
 use placing::Claim;
 use placing::boards::NEAR_TABLE;
@@ -57,7 +57,7 @@ fn write_child<'a>(
         op op (placing (now starts) (now insts)) (now lows) here s i
         × InOrder (placing (now starts) (now insts)) op
         × (room ≤ 8 * length (now sheet)) × (room ≤ 8 * maxNote) × (at ≤ room) × (n ≤ 2 ^ width) × (width ≤ 16) ⌝ }
-    ensures { λ r. ⌜ Writes
+    ensures { λ r. ⌜ Writes room
         (writeAt room width
         (boardWith n k t e wire clock (now (from .entry)) (now (to .entry)) (now (types .entry)) (now (costs .entry)) (now (times .entry)) (now (delays .entry)) (now (spacings .entry)) (now (lasts .entry)) (now (near .entry)))
         claim (n - (op + 1)) (putRow (placing (now (starts .entry)) (now (insts .entry))) op (optionAt s i)) (draft (now (sheet .entry)) at))
@@ -106,7 +106,7 @@ fn write_child<'a>(
 
 // Writes a split on operation op.
 fn put_split(sheet: &mut [u8], at: usize, width: usize, op: usize)
-    requires { ⌜ (at + 1 + width ≤ 8 * length (now sheet)) × (width ≤ 16) × (op < 2 ^ width) ⌝ }
+    requires { ⌜ (at + 1 + width ≤ 8 * length (now sheet)) × (width ≤ 16) × (op < 2 ^ width) × (at < 2 ^ 32) ⌝ }
     ensures { λ _. ⌜ now (sheet .exit) ≡ putAll (now (sheet .entry)) at (splitMark width op) ⌝ }
 {
     put(sheet, at, MARK_BITS, 1);
@@ -146,7 +146,7 @@ pub(crate) fn write_place<'a>(
         op (placing (now starts) (now insts)) (now lows) here
         × InOrder (placing (now starts) (now insts)) op
         × (room ≤ 8 * length (now sheet)) × (room ≤ 8 * maxNote) × (at ≤ room) × (n ≤ 2 ^ width) × (width ≤ 16) ⌝ }
-    ensures { λ r. ⌜ Writes
+    ensures { λ r. ⌜ Writes room
         (writeAt room width
         (boardWith n k t e wire clock (now (from .entry)) (now (to .entry)) (now (types .entry)) (now (costs .entry)) (now (times .entry)) (now (delays .entry)) (now (spacings .entry)) (now (lasts .entry)) (now (near .entry)))
         claim (n - op) (placing (now (starts .entry)) (now (insts .entry))) (draft (now (sheet .entry)) at))

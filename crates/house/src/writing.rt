@@ -18,12 +18,8 @@ use bits::bytes_for;
 use bits::put;
 use notes::Branch;
 use notes::Claimed;
-use notes::checking::MAX_NOTE;
-use notes::checking::NOTE_FORM;
-use notes::checking::NOTE_HEAD;
-use notes::checking::SPLIT_BITS;
-use notes::checking::VERDICT_BITS;
 use notes::claims::ask;
+use notes::limits::*;
 use placing::Claim;
 use placing::boards::board_of;
 use sheets::Job;
@@ -43,7 +39,7 @@ fn room_of(bytes: usize) -> usize
 // Writes header and tree to a blank sheet.
 fn write_sheet(job: Job, claim: Claim, room: usize, sheet: &mut [u8]) -> Branch
     requires { ⌜ WasRead job × (room ≤ 8 * length (now sheet)) × (room ≤ 8 * maxNote) ⌝ }
-    ensures { λ r. ⌜ Drafts (draftFrom (boardOf job) claim room (now (sheet .entry))) r (now (sheet .exit)) ⌝ }
+    ensures { λ r. ⌜ Drafts room (draftFrom (boardOf job) claim room (now (sheet .entry))) r (now (sheet .exit)) ⌝ }
 {
     if room < NOTE_HEAD {
         return Branch::Refused(OUTPUT_SHORT);

@@ -113,7 +113,7 @@ module _ (note : List ℕ) (w : ℕ) (b : Board) (claim : Claim) (p : Placing) (
 
   module _ {left : ℕ} (some : left ≡ 0 → ⊥) {fault : ℕ} (f : fault ≡ markFault note w may (unplaced (b .n) (p .starts)) at) where
     at-mark : placeAt note w b claim left p at
-        ≡ unlessFault note w fault (marked note w (splits note w at) (inTurn (placeAt note w b claim (left - 1)) (splitOn b p (splitOp note w at)) (splitEnd note w at)) (goes (at + markBits)))
+        ≡ unlessFault fault (marked (splits note at) (inTurn (placeAt note w b claim (left - 1)) (splitOn b p (splitOp note w at)) (splitEnd note w at)) (goes (at + markBits)))
     unfolding place
     at-mark = let e : left ≡ suc (left - 1) = omega (arith, some) in ap (λ (d : ℕ). placeAt note w b claim d p at) e ∙ rw (f, m)
 
@@ -122,24 +122,24 @@ module _ (note : List ℕ) (w : ℕ) (b : Board) (claim : Claim) (p : Placing) (
     fault-place h = go fault h at-mark
       where
         go : (k : ℕ) → (k ≡ 0 → ⊥) → placeAt note w b claim left p at
-            ≡ unlessFault note w k (marked note w (splits note w at) (inTurn (placeAt note w b claim (left - 1)) (splitOn b p (splitOp note w at)) (splitEnd note w at)) (goes (at + markBits)))
+            ≡ unlessFault k (marked (splits note at) (inTurn (placeAt note w b claim (left - 1)) (splitOn b p (splitOp note w at)) (splitEnd note w at)) (goes (at + markBits)))
             → Refused k ≡ branchOf (placeAt note w b claim left p at)
         go zero h e = absurd (h refl)
         go (suc k) h e = rw e
 
     module _ (sound : fault ≡ 0) where
-      parts : (runsOut (length note) (at + markBits) ≡ 0) × (faultIf note w (splits note w at) may (unplaced (b .n) (p .starts)) at ≡ 0)
+      parts : (runsOut (length note) (at + markBits) ≡ 0) × (faultIf note w (splits note at) may (unplaced (b .n) (p .starts)) at ≡ 0)
       unfolding markFault
       parts = orElse-none _ _ (sym f ∙ sound)
 
-      pub close-place : splits note w at ≡ false → Closed (at + markBits) ≡ branchOf (placeAt note w b claim left p at)
+      pub close-place : splits note at ≡ false → Closed (at + markBits) ≡ branchOf (placeAt note w b claim left p at)
       unfolding unlessFault marked
       close-place e = rw (at-mark, sound, e)
 
       pub close-inside : at + markBits ≤ 8 * length note
       close-inside = none-whole (length note) (at + markBits) (parts .0)
 
-      module _ (e : splits note w at ≡ true) where
+      module _ (e : splits note at ≡ true) where
         pub split-place : placeAt note w b claim left p at ≡ inTurn (placeAt note w b claim (left - 1)) (splitOn b p (splitOp note w at)) (splitEnd note w at)
         unfolding unlessFault marked
         split-place = at-mark ∙ rw (sound, e)

@@ -51,26 +51,26 @@ if-stops true number at k e = not-stopped k at (sym e)
 if-stops false number at k e = cc
 
 module _ (note : List ℕ) (w : ℕ) where
-  unless-stops : (fault : ℕ) (next : Turn ℕ) (k : ℕ) → unlessFault note w fault next ≡ stops k → k ≡ 0 → next ≡ stops k
+  unless-stops : (fault : ℕ) (next : Turn ℕ) (k : ℕ) → unlessFault fault next ≡ stops k → k ≡ 0 → next ≡ stops k
   unfolding unlessFault
   unless-stops zero next k e z = e
   unless-stops (suc number) next k e z = absurd (let q : suc number ≡ k = cc in omega arith)
 
-  unless-goes : (fault : ℕ) (next : Turn ℕ) (end : ℕ) → unlessFault note w fault next ≡ goes end → (fault ≡ 0) × (next ≡ goes end)
+  unless-goes : (fault : ℕ) (next : Turn ℕ) (end : ℕ) → unlessFault fault next ≡ goes end → (fault ≡ 0) × (next ≡ goes end)
   unfolding unlessFault
   unless-goes zero next end e = (refl, e)
   unless-goes (suc number) next end e = not-stopped (suc number) end e
 
   -- a mark that closes where it may, and one that splits on what it may
   close-goes : (may : Bool) (free : ℕ → Bool) (at : ℕ) (kids : Turn ℕ) → field note at markBits ≡ 0 → at + markBits ≤ 8 * length note → may ≡ true
-      → unlessFault note w (markFault note w may free at) (marked note w (splits note w at) kids (goes (at + markBits))) ≡ goes (at + markBits)
+      → unlessFault (markFault note w may free at) (marked (splits note at) kids (goes (at + markBits))) ≡ goes (at + markBits)
   unfolding unlessFault markFault faultIf marked
   close-goes may free at kids v l h =
       rw (ne-eqb (field note at markBits) 1 (λ e. omega arith), none-orElse _ _ (whole-none (length note) (at + markBits) l) (none-unless may closeBroken h))
 
   split-goes : (may : Bool) (free : ℕ → Bool) (at o : ℕ) (kids : Turn ℕ) → field note at markBits ≡ 1 → splitOp note w at ≡ o
       → splitEnd note w at ≤ 8 * length note → free o ≡ true
-      → unlessFault note w (markFault note w may free at) (marked note w (splits note w at) kids (goes (at + markBits))) ≡ kids
+      → unlessFault (markFault note w may free at) (marked (splits note at) kids (goes (at + markBits))) ≡ kids
   unfolding unlessFault markFault faultIf marked
   split-goes may free at o kids v e l h =
       let bit = whole-none (length note) (at + markBits) (omega arith) in
@@ -128,14 +128,14 @@ module _ (note : List ℕ) (w : ℕ) where
           within = λ l. ts .within (t .within l);
         }
 
-    read-close : (d : ℕ) (n : Node) (at end : ℕ) → splits note w at ≡ false → at + markBits ≤ 8 * length note → closable n ≡ true → at + markBits ≡ end
+    read-close : (d : ℕ) (n : Node) (at end : ℕ) → splits note at ≡ false → at + markBits ≤ 8 * length note → closable n ≡ true → at + markBits ≡ end
         → TreeAt (suc d) n at end
     unfolding Closes marks Holds Fit total
     read-close d n at end s l may e =
         let zeroBit : field note at markBits ≡ 0 = omega (arith, eqb-false (field note at markBits) 1 s, field-lt note at markBits) in
         record { tree = close; closes = may; holds = (zeroBit, tt); fit = (lit< tt, tt); ends = sym e; within = λ q. omega arith }
 
-    read-split : (d : ℕ) (n : Node) (at end : ℕ) → splits note w at ≡ true → splitEnd note w at ≤ 8 * length note → choice n (splitOp note w at) ≡ true
+    read-split : (d : ℕ) (n : Node) (at end : ℕ) → splits note at ≡ true → splitEnd note w at ≤ 8 * length note → choice n (splitOp note w at) ≡ true
         → TreesAt d (children n (splitOp note w at)) (splitEnd note w at) end → TreeAt (suc d) n at end
     unfolding Closes marks Holds Fit total
     read-split d n at end s l free ts =
@@ -155,15 +155,15 @@ module _ (note : List ℕ) (w : ℕ) where
         record { tree = whole; closes = a .0; holds = tt; fit = tt; ends = omega (arith, a .1); within = λ l. omega (arith, a .1) }
     place-tree (suc d) n at end e =
         let a = unless-goes (markFault note w (closable n) (choice n) at) _ end e in
-        let f = orElse-none (runsOut (length note) (at + markBits)) (faultIf note w (splits note w at) (closable n) (choice n) at) (a .0) in
-        go (place-tree d) (splits note w at) refl (none-whole (length note) (at + markBits) (f .0)) (f .1) (a .1)
+        let f = orElse-none (runsOut (length note) (at + markBits)) (faultIf note w (splits note at) (closable n) (choice n) at) (a .0) in
+        go (place-tree d) (splits note at) refl (none-whole (length note) (at + markBits) (f .0)) (f .1) (a .1)
       where
         kids : Turn ℕ
         kids = inTurn (placeHere d) (children n (splitOp note w at)) (splitEnd note w at)
 
         go : ((c : Node) (at end : ℕ) → placeHere d c at ≡ goes end → TreeAt d c at end)
-            → (t : Bool) → splits note w at ≡ t → at + markBits ≤ 8 * length note → faultIf note w t (closable n) (choice n) at ≡ 0
-            → marked note w t kids (goes (at + markBits)) ≡ goes end → TreeAt (suc d) n at end
+            → (t : Bool) → splits note at ≡ t → at + markBits ≤ 8 * length note → faultIf note w t (closable n) (choice n) at ≡ 0
+            → marked t kids (goes (at + markBits)) ≡ goes end → TreeAt (suc d) n at end
         go each true s l f e =
             let q = orElse-none (runsOut (length note) (splitEnd note w at)) _ f in
             read-split d n at end s (none-whole (length note) (splitEnd note w at) (q .0)) (unless-none _ splitBroken (lit< tt) (q .1))
@@ -219,13 +219,13 @@ module _ (note : List ℕ) (w : ℕ) where
     unfolding place marked
     place-stops zero n at number e z = let k = if-stops (closable n) cheaper at number e in omega arith
     place-stops (suc d) n at number e z =
-        go (splits note w at) (turns-stop d (place-stops d)) (unless-stops (markFault note w (closable n) (choice n) at) _ number e z)
+        go (splits note at) (turns-stop d (place-stops d)) (unless-stops (markFault note w (closable n) (choice n) at) _ number e z)
       where
         kids : Turn ℕ
         kids = inTurn (placeHere d) (children n (splitOp note w at)) (splitEnd note w at)
 
         go : (t : Bool) → ((ns : List Node) (at number : ℕ) → inTurn (placeHere d) ns at ≡ stops number → number ≡ 0 → ⊥)
-            → marked note w t kids (goes (at + markBits)) ≡ stops number → ⊥
+            → marked t kids (goes (at + markBits)) ≡ stops number → ⊥
         go true each e = each (children n (splitOp note w at)) (splitEnd note w at) number e z
         go false each e = not-stopped number (at + markBits) (sym e)
 

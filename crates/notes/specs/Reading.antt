@@ -18,12 +18,12 @@ use Rattle.notes.specs.NoteSheet.{markBits}
 use Rattle.notes.specs.declared.Branch.{Branch}
 use Rattle.notes.specs.declared.Branch.the-variants.{Closed, Refused}
 
+-- ---- the mark at a bit of the note
+
+abbrev pub splits : List ℕ → ℕ → Bool
+splits note at = eqb (field note at markBits) 1
+
 module _ (note : List ℕ) (w : ℕ) where
-  -- ---- the mark at a bit of the note
-
-  abbrev pub splits : ℕ → Bool
-  splits at = eqb (field note at markBits) 1
-
   -- the operation that it splits on, and the bit behind it
   abbrev pub splitOp : ℕ → ℕ
   splitOp at = field note (at + markBits) w
@@ -37,25 +37,25 @@ module _ (note : List ℕ) (w : ℕ) where
   faultIf false may free at = faultUnless may closeBroken
 
   unfoldable pub markFault : Bool → (ℕ → Bool) → ℕ → ℕ
-  markFault may free at = runsOut (length note) (at + markBits) orElse faultIf (splits at) may free at
+  markFault may free at = runsOut (length note) (at + markBits) orElse faultIf (splits note at) may free at
 
-  -- ---- a place
+-- ---- a place
 
-  unfoldable pub unlessFault : ℕ → Turn ℕ → Turn ℕ
-  unlessFault zero next = next
-  unlessFault (suc number) next = stops (suc number)
+unfoldable pub unlessFault : ℕ → Turn ℕ → Turn ℕ
+unlessFault zero next = next
+unlessFault (suc number) next = stops (suc number)
 
-  unfoldable pub marked : Bool → Turn ℕ → Turn ℕ → Turn ℕ
-  marked true children closed = children
-  marked false children closed = closed
+unfoldable pub marked : Bool → Turn ℕ → Turn ℕ → Turn ℕ
+marked true children closed = children
+marked false children closed = closed
 
-  module _ (Node : Type 0) (closable : Node → Bool) (choice : Node → ℕ → Bool) (children : Node → ℕ → List Node) where
-    -- with d choices to make
-    unfoldable pub place : ℕ → Node → ℕ → Turn ℕ
-    place zero n at = goesIf (closable n) cheaper at
-    place (suc d) n at =
-        unlessFault (markFault (closable n) (choice n) at)
-        (marked (splits at) (inTurn (place d) (children n (splitOp at)) (splitEnd at)) (goes (at + markBits)))
+module _ (note : List ℕ) (w : ℕ) (Node : Type 0) (closable : Node → Bool) (choice : Node → ℕ → Bool) (children : Node → ℕ → List Node) where
+  -- with d choices to make
+  unfoldable pub place : ℕ → Node → ℕ → Turn ℕ
+  place zero n at = goesIf (closable n) cheaper at
+  place (suc d) n at =
+      unlessFault (markFault note w (closable n) (choice n) at)
+      (marked (splits note at) (inTurn (place d) (children n (splitOp note w at)) (splitEnd note w at)) (goes (at + markBits)))
 
 -- ---- a place of a board, with d operations to place
 

@@ -6,6 +6,7 @@ use crate::Branch;
 use crate::Checked;
 use crate::Claimed;
 use crate::claims::ask;
+use crate::limits::*;
 use crate::reading::place;
 use basics::Answer;
 use basics::fault_unless;
@@ -18,19 +19,6 @@ use sheets::groups::fill_fault;
 use sheets::groups::form_fault;
 use sheets::groups::runs_out;
 use sheets::limits::*;
-
-pub const NOTE_FORM: u32 = 3;
-
-pub const VERDICT_BITS: usize = 1;
-
-// The header's end.
-pub const NOTE_HEAD: usize = FORM_BITS + VERDICT_BITS;
-
-// The number of a split's operation.
-pub const SPLIT_BITS: usize = OP_BITS;
-
-// Bytes.
-pub const MAX_NOTE: usize = 60000;
 
 // The first fault of the note's header, where a plan is lent or not.
 fn head_fault(note: &[u8], plan: bool) -> u32

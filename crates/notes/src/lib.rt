@@ -1,4 +1,5 @@
 // Closing notes: what is claimed, the tree read place by place, and the check.
+pub mod limits; // form, widths and limit of the sheet
 pub mod claims; // what is claimed of a job
 pub mod reading; // the tree, place by place
 pub mod checking; // the check: check_note, checked_says

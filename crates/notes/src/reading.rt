@@ -8,6 +8,7 @@ ghost use Rattle.placing.specs.Ready.{boardWith, placing, optionAt, Ready, Plac
 ghost use Rattle.notes.specs.NoteSheet.{maxNote};
 ghost use Rattle.notes.specs.Reading.{splits, splitOp, markFault, placeAt, branchOf, Reads};
 use crate::Branch;
+use crate::limits::MARK_BITS;
 use basics::fault_unless;
 use basics::or_else;
 use placing::Claim;
@@ -22,9 +23,6 @@ use rules::model::UNIT_CELLS;
 use sheets::groups::runs_out;
 use sheets::limits::*;
 
-// Every mark begins with a bit.
-pub const MARK_BITS: usize = 1;
-
 // Closed before bit `at`, or refused by the number where that is not allowed.
 pub fn closed_if(may: bool, number: u32, at: usize) -> Branch
     ensures { λ r. ⌜ r ≡ branchOf (goesIf may number at) ⌝ }
@@ -38,7 +36,7 @@ pub fn closed_if(may: bool, number: u32, at: usize) -> Branch
 // The mark at a bit of the note splits.
 fn splits_at(note: &[u8], at: usize) -> bool
     requires { ⌜ at < 2 ^ 31 ⌝ }
-    ensures { λ r. ⌜ r ≡ splits (now (note .entry)) 0 at ⌝ }
+    ensures { λ r. ⌜ r ≡ splits (now (note .entry)) at ⌝ }
 {
     bits::field(note, at, MARK_BITS) == 1
 }

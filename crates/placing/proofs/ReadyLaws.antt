@@ -1,8 +1,8 @@
 -- What a function that places one more row can say of it. The code's test is whether the option is live: `fits-ready`, in whatever
 -- order rows are placed, and `fits-in-order` in number order. With the row the board is ready for the next one: `next-ready`; with
--- nothing placed it is: `none-ready`. A row that is taken back leaves what was there: `restored`.
+-- nothing placed it is: `none-ready`. A row that is taken back leaves what was there: `restored`, `rows-back`.
 use Prim.Native.Nat.{ℕ, _≤_, _<_, min}
-use mathlib.Core.Path.{_≡_, refl, sym, ap₂, _∙_}
+use mathlib.Core.Path.{_≡_, refl, sym, ap, ap₂, _∙_}
 use mathlib.Core.Bool.{Bool, false}
 use mathlib.Core.List.{List}
 use native.Mathlib.Omega.{arith}
@@ -14,12 +14,14 @@ use Rattle.basics.specs.Tables.{cell}
 use Rattle.basics.proofs.TableLaws.{cell-replicate}
 use Rattle.sheets.specs.Limits.{opCells, instCells, typeCells}
 use Rattle.placing.specs.declared.Board.{Board}
+use Rattle.placing.specs.declared.Claim.{Claim}
 use Rattle.placing.specs.Board.{OfJob, unit}
+use Rattle.placing.specs.Closing.{allowed, closable}
 use Rattle.placing.specs.Costing.{costWith}
 use Rattle.placing.specs.Fitting.{fits, firstStart}
 use Rattle.placing.specs.Options.{none, put}
 use Rattle.placing.specs.Placing.{Placing, live}
-use Rattle.placing.specs.Ready.{optionAt, Ready, Places}
+use Rattle.placing.specs.Ready.{placing, optionAt, Ready, Places}
 use Rattle.placing.proofs.CostLaws.{tracks-none, tracks-put}
 use Rattle.placing.proofs.FitLaws.{fits-live, settled-links}
 use Rattle.placing.proofs.PartLaws.{none-live}
@@ -27,6 +29,19 @@ use Rattle.placing.proofs.PartLaws.{none-live}
 -- a store over the one before it brings the old value back
 pub restored : {l l' : List ℕ} {x : ℕ} (at y : ℕ) → l' ≡ set l at y → x ≡ cell l at → set l' at x ≡ l
 restored {l} {l'} {x} at y p q = ap₂ (λ (xs : List ℕ) (z : ℕ). set xs at z) p q ∙ set-set l at y (cell l at) ∙ set-getD l at 0
+
+-- rows placed and taken back
+pub rows-back : (starts insts starts' insts' : List ℕ) (op s i : ℕ) → placing starts' insts' ≡ placing (set starts op s) (set insts op i)
+    → placing (set starts' op (cell starts op)) (set insts' op (cell insts op)) ≡ placing starts insts
+rows-back starts insts starts' insts' op s i e =
+    let a = restored op s (ap (λ (p : Placing). p .starts) e) refl in
+    let b = restored op i (ap (λ (p : Placing). p .insts) e) refl in
+    λ j. placing (a j) (b j)
+
+-- the code's test, at the cost that it keeps, is whether the place may be closed
+pub may-close : {b : Board} (claim : Claim) {reach here : ℕ} {p : Placing} {lows : List ℕ} {may : Bool} → may ≡ allowed claim here → Ready b reach p lows here
+    → may ≡ closable b claim p
+may-close {b} claim e w = e ∙ ap (allowed claim) (w .tracks .costs)
 
 -- ---- the code's test is whether the option is live
 

@@ -2,7 +2,7 @@
 -- a loop is: what it changed is as it was, and the options left lead where the loop began to lead. One option further: `after-dead`,
 -- `after-live`; one start further: `begin-start`, `next-start`; the end: `stops-at`, `stands-end`.
 use Prim.Native.Nat.{ℕ, _+_, _≤_, _<_}
-use mathlib.Core.Path.{_≡_, sym, ap, _∙_}
+use mathlib.Core.Path.{_≡_, refl, sym, ap, _∙_}
 use mathlib.Core.Bool.{true, false}
 use mathlib.Core.List.{List}
 use Rattle.basics.specs.Tables.{cell}
@@ -22,6 +22,11 @@ pub record Stands {A : Type 0} (b : Board) (reach op here : ℕ) (f : Placing �
   pub same : p ≡ p₀
   pub same-lows : lows ≡ lows₀
   pub leads : inTurn f (liveOnes b p op rs) x ≡ u
+
+-- the same options, on the way to another end
+pub stands-whole : {A : Type 0} {b : Board} {reach op here : ℕ} {f : Placing → A → Turn A} {p₀ p : Placing} {lows₀ lows : List ℕ} {u v : Turn A} {x : A} {rs : List Option}
+    → Stands b reach op here f p₀ lows₀ u p lows x rs → inTurn f (liveOnes b p op rs) x ≡ v → Stands b reach op here f p lows v p lows x rs
+stands-whole w e = record { able = w .able; more = w .more; free = w .free; same = refl; same-lows = refl; leads = e }
 
 module _ {A : Type 0} {b : Board} {reach op here : ℕ} {f : Placing → A → Turn A} {p₀ : Placing} {lows₀ : List ℕ} {u : Turn A} where
   -- the same rows under other names, with other options and another state

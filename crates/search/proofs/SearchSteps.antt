@@ -6,31 +6,29 @@ use mathlib.Core.List.{List}
 use native.Mathlib.Nat.{lt-of-le-of-lt}
 use native.Mathlib.Omega.{arith}
 use borrow.Author.Tests.{le-leb, lt-leb}
-use lib.ListN.{length, replicate}
+use lib.ListN.{length}
 use Rattle.basics.specs.Answers.{Promise}
-use Rattle.basics.proofs.TableLaws.{cell-replicate}
 use Rattle.sheets.specs.JobSheet.{readJob}
-use Rattle.sheets.specs.Limits.{opCells, instCells, typeCells, maxSteps}
+use Rattle.sheets.specs.Limits.{opCells, instCells}
 use Rattle.sheets.specs.PlanSheet.{writePlan, planOut}
 use Rattle.sheets.specs.declared.Job.{Job}
 use Rattle.sheets.specs.declared.Plan.{Plan}
 use Rattle.sheets.specs.declared.JobRead.{JobRead}
 use Rattle.sheets.specs.declared.Reading.the-variants.{Read, Refused as Unread}
 use Rattle.sheets.specs.declared.Written.{Written}
-use Rattle.sheets.proofs.JobRoundTrip.{job-sound}
 use Rattle.rules.specs.Model.{instCount}
 use Rattle.placing.specs.Bound.{State, tick}
-use Rattle.placing.specs.Board.{OfJob, boardOf}
+use Rattle.placing.specs.Board.{boardOf}
+use Rattle.placing.proofs.BoardLaws.{read-limits}
 use Rattle.placing.specs.Options.{none, children}
 use Rattle.placing.specs.Placing.{Placing, cost, smallest, smallestIn}
+use Rattle.placing.specs.Ready.{placing}
 use Rattle.placing.specs.declared.Board.{Board}
 use Rattle.placing.proofs.BoundLaws.{visits-walk}
-use Rattle.placing.proofs.CostLaws.{tracks-none}
-use Rattle.placing.proofs.PartLaws.{none-live}
 use Rattle.search.specs.Search.{walkFrom, begin, walked, wrote, answered, within, searchJob, outIf, searchJobOut, ifRead, search, outIfRead, searchOut}
 use Rattle.placing.specs.Board.{WasRead}
 use Rattle.placing.specs.Plans.{planFrom}
-use Rattle.search.specs.Walking.{placing, stateOf, arrival, goesOn, Walkable, Walks}
+use Rattle.search.specs.Walking.{stateOf, arrival, goesOn, Walks}
 use Rattle.search.specs.declared.Arrival.{Arrival}
 use Rattle.search.specs.declared.Arrival.the-variants.{Spent as None, Shut, Open}
 use Rattle.search.specs.declared.Progress.{Progress}
@@ -43,28 +41,9 @@ use Rattle.search.specs.declared.Searched.the-variants.{Nothing, Spent, 
 
 -- ---- how it begins
 
-pub read-limits : (j : Job) → WasRead j → (j .n ≤ opCells) × (instCount j ≤ instCells) × (j .t ≤ maxSteps)
-read-limits j r = let s = job-sound (r .sheet) j (r .read) in (s .counts .ops, s .insts, s .steps)
-
-pub board-read : {b : Board} (j : Job) → WasRead j → b ≡ boardOf j → OfJob b
-board-read j r e = record { sheet = r .sheet; job = j; read = r .read; is = e }
-
 pub few-units : {b : Board} (j : Job) → b ≡ boardOf j → WasRead j → b .k ≤ instCells
 unfolding boardOf
 few-units j of r = rw of (read-limits j r .1)
-
-pub begins : (b : Board) → OfJob b → Walkable b 0 none (replicate typeCells instCells) 0
-begins b of =
-    record {
-      of = of;
-      few = omega arith;
-      alive = none-live b of;
-      behind = λ o l. cell-replicate opCells o;
-      tracks = tracks-none b of;
-      starts-long = refl;
-      insts-long = refl;
-      lows-long = refl;
-    }
 
 abbrev pub atStart : Progress
 atStart = record { visits = 0; held = false; cost = 0 }

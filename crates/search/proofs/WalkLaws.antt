@@ -1,28 +1,26 @@
 -- What the proof of `walk` needs: how the walk goes on from a level with the options left (`rest`), and what a call leaves.
 use Prim.Native.Nat.{ℕ, zero, suc, _+_, _-_, _≤_, _<_, min}
-use mathlib.Core.Path.{_≡_, refl, sym, ap, ap₂, _∙_}
+use mathlib.Core.Path.{_≡_, refl, sym, ap, _∙_}
 use mathlib.Core.Bool.{Bool, true, false, _&&_}
-use mathlib.Core.List.{List, [], _∷_}
-use native.Mathlib.Decide.{decLt}
+use mathlib.Core.List.{List}
 use native.Mathlib.Nat.{lt-of-le-of-lt}
 use native.Mathlib.Omega.{arith}
-use borrow.Author.Tests.{leb-true, leb-false, ltb-true, le-leb, lt-leb}
-use lib.Dec.{leb, ltb}
-use lib.ListN.{set, length-set}
-use lib.Seq.{set-set, set-getD, getD-set-other}
+use borrow.Author.Tests.{leb-true, leb-false, le-leb, lt-leb}
+use lib.Dec.{leb}
+use lib.ListN.{set}
 use Rattle.basics.specs.Tables.{cell}
 use Rattle.placing.specs.Bound.{State, shut, tick, each}
-use Rattle.placing.specs.Board.{unit}
 use Rattle.placing.specs.Costing.{costWith}
-use Rattle.placing.specs.Fitting.{fits, firstStart}
-use Rattle.placing.specs.Options.{Option, optionsAt, optionsFrom, options, put, keepIf, liveOnes, children}
+use Rattle.placing.specs.Fitting.{firstStart}
+use Rattle.placing.specs.Options.{Option, options, put, liveOnes, children}
 use Rattle.placing.specs.Placing.{Placing, live, cost}
+use Rattle.placing.specs.Ready.{placing, optionAt, Ready, Places}
 use Rattle.placing.specs.declared.Board.{Board}
 use Rattle.placing.proofs.BoundLaws.{visits-walk, visits-each, walk-shut, walk-leaf, walk-open}
-use Rattle.placing.proofs.CostLaws.{tracks-put}
-use Rattle.placing.proofs.FitLaws.{fits-live, early-dead, settled-links}
+use Rattle.placing.proofs.ReadyLaws.{restored, next-ready}
+use Rattle.placing.proofs.RowLaws.{row, from-start, row-start, row-end, row-live, row-dead, no-rows, first-rows}
 use Rattle.search.specs.Search.{walkFrom, within}
-use Rattle.search.specs.Walking.{placing, optionAt, stateOf, counted, arrivalIf, arrival, goesOn, Walkable, Visitable, ended, Walks}
+use Rattle.search.specs.Walking.{stateOf, counted, arrivalIf, arrival, goesOn, ended, Walks}
 use Rattle.search.specs.declared.Arrival.{Arrival}
 use Rattle.search.specs.declared.Arrival.the-variants.{Spent as None, Shut, Open}
 use Rattle.search.specs.declared.Progress.{Progress}
@@ -142,154 +140,67 @@ abbrev pub rest : Board → ℕ → Placing → List Option → State Placing �
 rest b op p rs v = each (walkFrom b (b .n - (op + 1))) (liveOnes b p op rs) v
 
 module _ (b : Board) (op : ℕ) (p : Placing) where
-  pub goes-rest : (v : State Placing) → op < b .n → goesOn b (b .n - op) p v ≡ rest b op p (options b) v
+  each-as : (v : State Placing) {ps qs : List Placing} → ps ≡ qs → each (walkFrom b (b .n - (op + 1))) ps v ≡ each (walkFrom b (b .n - (op + 1))) qs v
+  each-as v e = ap (λ (rs : List Placing). each (walkFrom b (b .n - (op + 1))) rs v) e
+
+  rest-as : (v : State Placing) {rs qs : List Option} → rs ≡ qs → rest b op p rs v ≡ rest b op p qs v
+  rest-as v e = each-as v (ap (liveOnes b p op) e)
+
+  goes-rest : (v : State Placing) → op < b .n → goesOn b (b .n - op) p v ≡ rest b op p (options b) v
   unfolding goesOn children
   goes-rest v l =
       let z : b .n - op ≡ suc (b .n - (op + 1)) = omega arith in
       let y : b .n - suc (b .n - (op + 1)) ≡ op = omega arith in
-      ap (λ (d : ℕ). goesOn b d p v) z
-      ∙ ap (λ (o : ℕ). each (walkFrom b (b .n - (op + 1))) (liveOnes b p o (options b)) v) y
-
-  rest-live : (r : Option) (rs : List Option) (v : State Placing) → live b (put p op r) ≡ true
-      → rest b op p (r ∷ rs) v ≡ rest b op p rs (walkFrom b (b .n - (op + 1)) (put p op r) v)
-  unfolding each liveOnes keepIf
-  rest-live r rs v e = rw e
-
-  rest-dead : (r : Option) (rs : List Option) (v : State Placing) → live b (put p op r) ≡ false → rest b op p (r ∷ rs) v ≡ rest b op p rs v
-  unfolding each liveOnes keepIf
-  rest-dead r rs v e = rw e
+      ap (λ (d : ℕ). goesOn b d p v) z ∙ each-as v (ap (λ (o : ℕ). liveOnes b p o (options b)) y)
 
   rest-visits : (rs : List Option) (v : State Placing) → v .visits ≤ rest b op p rs v .visits
   rest-visits rs v = visits-each Placing (cost b) (children b) (b .n - (op + 1)) (liveOnes b p op rs) v
 
   -- ---- one option further: u is the walk's end
 
-  abbrev pub row : ℕ → ℕ → List Option
-  row s i = optionsAt s i (b .k - i) (optionsFrom (b .k) (s + 1) (b .t + 1 - (s + 1)))
-
-  abbrev pub from-start : ℕ → List Option
-  from-start s = optionsFrom (b .k) s (b .t + 1 - s)
-
-  row-at : (s i : ℕ) → i < b .k → row s i ≡ optionAt s i ∷ row s (i + 1)
-  unfolding optionsAt
-  row-at s i l = let z : b .k - i ≡ suc (b .k - (i + 1)) = omega arith in rw z
-
-  row-end : (s i : ℕ) → b .k ≤ i → row s i ≡ from-start (s + 1)
-  unfolding optionsAt
-  row-end s i l = let z : b .k - i ≡ 0 = omega arith in rw z
-
-  row-start : (s : ℕ) → s ≤ b .t → from-start s ≡ row s 0
-  unfolding optionsFrom
-  row-start s l =
-      let z : b .t + 1 - s ≡ suc (b .t + 1 - (s + 1)) = omega arith in
-      let y : b .k - 0 ≡ b .k = omega arith in
-      rw (z, y)
-
   module _ (v u : State Placing) where
-    pub begin-row : (s : ℕ) → s ≤ b .t → rest b op p (from-start s) v ≡ u → rest b op p (row s 0) v ≡ u
-    begin-row s l e = ap (λ (rs : List Option). rest b op p rs v) (sym (row-start s l)) ∙ e
+    pub begin-row : (s : ℕ) → s ≤ b .t → rest b op p (from-start b s) v ≡ u → rest b op p (row b s 0) v ≡ u
+    begin-row s l e = rest-as v (sym (row-start b s l)) ∙ e
 
-    pub end-row : (s i : ℕ) → b .k ≤ i → rest b op p (row s i) v ≡ u → rest b op p (from-start (s + 1)) v ≡ u
-    end-row s i l e = ap (λ (rs : List Option). rest b op p rs v) (sym (row-end s i l)) ∙ e
+    end-row : (s i : ℕ) → b .k ≤ i → rest b op p (row b s i) v ≡ u → rest b op p (from-start b (s + 1)) v ≡ u
+    end-row s i l e = rest-as v (sym (row-end b s i l)) ∙ e
 
-    pub end-starts : (s : ℕ) → b .t < s → rest b op p (from-start s) v ≡ u → u ≡ v
-    unfolding optionsFrom liveOnes each
-    end-starts s l e =
-        let z : b .t + 1 - s ≡ 0 = omega arith in
-        sym e ∙ ap (λ (m : ℕ). rest b op p (optionsFrom (b .k) s m) v) z
+    pub end-starts : (s : ℕ) → b .t < s → rest b op p (from-start b s) v ≡ u → u ≡ v
+    unfolding each
+    end-starts s l e = sym e ∙ each-as v (no-rows b p op s l)
 
-    pub past-dead : (s i : ℕ) → i < b .k → live b (put p op (optionAt s i)) ≡ false
-        → rest b op p (row s i) v ≡ u → rest b op p (row s (i + 1)) v ≡ u
-    past-dead s i l d e =
-        sym (rest-dead (optionAt s i) (row s (i + 1)) v d) ∙ ap (λ (rs : List Option). rest b op p rs v) (sym (row-at s i l)) ∙ e
+    past-dead : (s i : ℕ) → i < b .k → live b (put p op (optionAt s i)) ≡ false
+        → rest b op p (row b s i) v ≡ u → rest b op p (row b s (i + 1)) v ≡ u
+    past-dead s i l d e = each-as v (sym (row-dead b p op s i l d)) ∙ e
 
     pub past-live : (s i : ℕ) → i < b .k → live b (put p op (optionAt s i)) ≡ true
-        → rest b op p (row s i) v ≡ u → rest b op p (row s (i + 1)) (walkFrom b (b .n - (op + 1)) (put p op (optionAt s i)) v) ≡ u
-    past-live s i l d e =
-        sym (rest-live (optionAt s i) (row s (i + 1)) v d) ∙ ap (λ (rs : List Option). rest b op p rs v) (sym (row-at s i l)) ∙ e
+        → rest b op p (row b s i) v ≡ u → rest b op p (row b s (i + 1)) (walkFrom b (b .n - (op + 1)) (put p op (optionAt s i)) v) ≡ u
+    unfolding each
+    past-live s i l d e = each-as v (sym (row-live b p op s i l d)) ∙ e
 
   -- spent on the way, spent at the end
   pub spent-end : {budget : ℕ} (rs : List Option) (e : State Placing) {u : State Placing} → rest b op p rs e ≡ u → budget < e .visits → budget < u .visits
   spent-end rs e q l = omega (arith, rest-visits rs e, ap (λ (z : State Placing). z .visits) q)
 
-  -- ---- starts before the first are passed over
-
-  skip-row : (v : State Placing) (s i m : ℕ) → m ≡ b .k - i → ((x : ℕ) → x < b .k → live b (put p op (record { start = s; inst = x })) ≡ false)
-      → rest b op p (row s i) v ≡ rest b op p (from-start (s + 1)) v
-  skip-row v s i zero e d = ap (λ (rs : List Option). rest b op p rs v) (row-end s i (omega arith))
-  skip-row v s i (suc m) e d =
-      sym (past-dead v (rest b op p (row s i) v) s i (omega arith) (d i (omega arith)) refl) ∙ skip-row v s (i + 1) m (omega arith) d
-
-  skip-starts : (v : State Placing) (m first : ℕ) → m + 1 ≡ first → ((s i : ℕ) → 1 ≤ s → s < first → i < b .k → live b (put p op (optionAt s i)) ≡ false)
-      → rest b op p (from-start 1) v ≡ rest b op p (from-start first) v
-  skip-starts v zero first e d = rw (sym e)
-  skip-starts v (suc m) first e d =
-      skip-starts v m (m + 1) refl (λ s i a l q. d s i a (omega arith) q)
-      ∙ elim (decLt (b .t) (m + 1)) [
-        | yes l ↦ past-end (m + 1) first l (omega arith)
-        | no l ↦
-            ap (λ (rs : List Option). rest b op p rs v) (row-start (m + 1) (omega arith))
-            ∙ skip-row v (m + 1) 0 (b .k - 0) refl (λ x q. d (m + 1) x (omega arith) (omega arith) q)
-            ∙ ap (λ (s : ℕ). rest b op p (from-start s) v) (let z : m + 1 + 1 ≡ first = omega arith in z)
-      ]
-    where
-      past-end : (s s' : ℕ) → b .t < s → s ≤ s' → rest b op p (from-start s) v ≡ rest b op p (from-start s') v
-      past-end s s' l q = end-starts v (rest b op p (from-start s) v) s l refl ∙ sym (end-starts v (rest b op p (from-start s') v) s' (omega arith) refl)
-
--- ---- a level with operation op to place
-
-module _ {b : Board} {op : ℕ} {p : Placing} {lows : List ℕ} {here : ℕ} (w : Walkable b op p lows here) (more : op < b .n) where
-  -- the code's test is whether the option is live; behind the first start links are settled
-  pub fits-here : {r : Bool} (first s i : ℕ) → first ≡ firstStart (b .delays) (b .near) (p .starts) (p .insts) op op → 1 ≤ s → i < b .k
-      → r ≡ fits (b .from) (b .to) (b .e) (b .wire) (b .clock) (b .times) (b .delays) (b .spacings) (b .lasts) (b .near) (p .starts) (p .insts) (ltb first s) op op s i
-      → live b (put p op (optionAt s i)) ≡ r
-  fits-here first s i f a l e =
-      sym (e ∙ fits-live b (w .of) p (w .starts-long) (w .insts-long) (w .alive) (ltb first s) op op s i
-      (λ h. settled-links (b .delays) (b .near) (p .starts) (p .insts) op (b .times) (b .wire) (b .clock) s (unit (b .times) op i) (unit (b .delays) op i) (rw f at (ltb-true first s h)))
-      (w .behind) (omega arith) more l a (w .behind op (omega arith)))
-
-  -- starts before the first are passed over
-  pub goes-first : (v : State Placing) (first : ℕ) → first ≡ firstStart (b .delays) (b .near) (p .starts) (p .insts) op op → 1 ≤ first
-      → goesOn b (b .n - op) p v ≡ rest b op p (from-start b op p first) v
-  goes-first v first e a =
-      let z : b .t + 1 - 1 ≡ b .t = omega arith in
-      goes-rest b op p v more
-      ∙ ap (λ (m : ℕ). rest b op p (optionsFrom (b .k) 1 m) v) (sym z)
-      ∙ skip-starts b op p v (first - 1) first (omega arith) (λ s i q l k. early-dead b (w .of) p (w .starts-long) (w .insts-long) op s i more k q (rw e at l))
-
--- with one more row the next level can be walked
-pub next-walkable : {b : Board} {op : ℕ} {p : Placing} {lows : List ℕ} {here s i : ℕ} (w : Visitable b op p lows here s i) {low lowest cost' : ℕ}
-    → low ≡ cell lows (cell (b .types) i) → lowest ≡ min low i → cost' ≡ costWith (b .types) (b .costs) (set lows (cell (b .types) i) lowest) (b .k) here low i
-    → Walkable b (op + 1) (put p op (optionAt s i)) (set lows (cell (b .types) i) lowest) cost'
-next-walkable {b} {op} {p} {lows} {here} {s} {i} v {low} {lowest} e m q =
-    let w = v .able in
-    record {
-      of = w .of;
-      few = omega (arith, v .more);
-      alive = v .lives;
-      behind = λ x k. getD-set-other (p .starts) op x s 0 (omega arith) ∙ w .behind x (omega arith);
-      tracks = rw (q, m, e) (tracks-put b (w .of) p (w .starts-long) (w .insts-long) lows here (w .lows-long) (w .tracks) op s i (v .more) (w .behind op (omega arith)) (v .begins) (v .unit));
-      starts-long = length-set (p .starts) op s ∙ w .starts-long;
-      insts-long = length-set (p .insts) op i ∙ w .insts-long;
-      lows-long = length-set lows (cell (b .types) i) lowest ∙ w .lows-long;
-    }
+-- at a level with operation op to place, starts before the first are passed over
+pub goes-first : {b : Board} {op : ℕ} {p : Placing} {lows : List ℕ} {here : ℕ} (w : Ready b op p lows here) → op < b .n
+    → (v : State Placing) (first : ℕ) → first ≡ firstStart (b .delays) (b .near) (p .starts) (p .insts) op op
+    → goesOn b (b .n - op) p v ≡ rest b op p (from-start b first) v
+goes-first {b} {op} {p} w more v first e =
+    goes-rest b op p v more ∙ each-as b op p v (first-rows b (w .of) p (w .starts-long) (w .insts-long) op more first e)
 
 -- ---- where a loop of the level stands: what it changed is as it was, and the walk goes on with these options to its end u
 
 pub record Stands (b : Board) (op here budget : ℕ) (p₀ : Placing) (lows₀ : List ℕ) (u : State Placing)
     (p : Placing) (lows : List ℕ) (v : State Placing) (rs : List Option) : Type 0 where
-  pub able : Walkable b op p lows here
+  pub able : Ready b op p lows here
   pub more : op < b .n
   pub same : p ≡ p₀
   pub same-lows : lows ≡ lows₀
   pub kept : v .visits ≤ budget
   pub goes : rest b op p rs v ≡ u
 
--- ---- lists and states brought back
-
--- a store over the one before it brings the old value back
-pub restored : {l l' : List ℕ} {x : ℕ} (at y : ℕ) → l' ≡ set l at y → x ≡ cell l at → set l' at x ≡ l
-restored {l} {l'} {x} at y p q = ap₂ (λ (xs : List ℕ) (z : ℕ). set xs at z) p q ∙ set-set l at y (cell l at) ∙ set-getD l at 0
+-- ---- states brought back
 
 -- the state in the code after a call that was done is the walk's
 pub state-is : {e : State Placing} {x : Progress} {starts insts : List ℕ} → x ≡ progressOf e → placing starts insts ≡ e .best .node → stateOf x starts insts ≡ e
@@ -297,17 +208,6 @@ state-is d q = λ i. record { visits = d i .visits; best = record { held = d i .
 
 pub same-state : {x x' : Progress} {starts starts' insts insts' : List ℕ} → x' ≡ x → starts' ≡ starts → insts' ≡ insts → stateOf x' starts' insts' ≡ stateOf x starts insts
 same-state p q r = λ i. stateOf (p i) (q i) (r i)
-
--- the first start of the same rows
-pub same-first : (delays near : List ℕ) (op : ℕ) {first : ℕ} {p p' : Placing} → p' ≡ p → first ≡ firstStart delays near (p .starts) (p .insts) op op
-    → first ≡ firstStart delays near (p' .starts) (p' .insts) op op
-same-first delays near op e f = f ∙ ap (λ (q : Placing). firstStart delays near (q .starts) (q .insts) op op) (sym e)
-
--- the first start is at least 1
-pub first-positive : (delays near starts insts : List ℕ) (op o : ℕ) → 1 ≤ firstStart delays near starts insts op o
-unfolding firstStart
-first-positive delays near starts insts op zero = omega arith
-first-positive delays near starts insts op (suc o) = omega (arith, first-positive delays near starts insts op o)
 
 -- ---- the loops of a level, one turn on
 
@@ -320,10 +220,10 @@ module _ {b : Board} {op here budget : ℕ} {p₀ : Placing} {lows₀ : List ℕ
 
   -- an option that is not live is passed over
   pub after-dead : {starts starts' insts insts' lows lows' best-starts best-starts' best-insts best-insts' : List ℕ} {x x' : Progress} (s i : ℕ)
-      → Stands b op here budget p₀ lows₀ u (placing starts insts) lows (stateOf x best-starts best-insts) (row b op p₀ s i)
+      → Stands b op here budget p₀ lows₀ u (placing starts insts) lows (stateOf x best-starts best-insts) (row b s i)
       → i < b .k → live b (put (placing starts insts) op (optionAt s i)) ≡ false
       → starts' ≡ starts → insts' ≡ insts → lows' ≡ lows → best-starts' ≡ best-starts → best-insts' ≡ best-insts → x' ≡ x
-      → Stands b op here budget p₀ lows₀ u (placing starts' insts') lows' (stateOf x' best-starts' best-insts') (row b op p₀ s (i + 1))
+      → Stands b op here budget p₀ lows₀ u (placing starts' insts') lows' (stateOf x' best-starts' best-insts') (row b s (i + 1))
   after-dead {starts} {starts'} {insts} {insts'} {lows} {lows'} {best-starts} {best-starts'} {best-insts} {best-insts'} {x} {x'} s i st l d e₁ e₂ e₃ e₄ e₅ e₆ =
       let v : stateOf x' best-starts' best-insts' ≡ stateOf x best-starts best-insts = same-state e₆ e₄ e₅ in
       stands-as st (λ k. placing (e₁ k) (e₂ k)) e₃ (rw v (st .kept)) (rw v (past-dead b op (placing starts insts) (stateOf x best-starts best-insts) u s i l d (st .goes)))
@@ -331,12 +231,12 @@ module _ {b : Board} {op here budget : ℕ} {p₀ : Placing} {lows₀ : List ℕ
   -- one that is live was visited
   pub after-live : {starts starts' starts'' insts insts' insts'' lows lows' lows'' best-starts best-starts' best-starts'' best-insts best-insts' best-insts'' : List ℕ}
       {x x' x'' : Progress} {r : Walked} (s i : ℕ)
-      → Stands b op here budget p₀ lows₀ u (placing starts insts) lows (stateOf x best-starts best-insts) (row b op p₀ s i)
+      → Stands b op here budget p₀ lows₀ u (placing starts insts) lows (stateOf x best-starts best-insts) (row b s i)
       → i < b .k → live b (put (placing starts insts) op (optionAt s i)) ≡ true
       → Walks budget (walkFrom b (b .n - (op + 1)) (put (placing starts insts) op (optionAt s i)) (stateOf x best-starts best-insts)) r
       (placing starts insts) (placing starts' insts') (placing best-starts' best-insts') lows lows'
       → r ≡ Done x' → starts'' ≡ starts' → insts'' ≡ insts' → lows'' ≡ lows' → best-starts'' ≡ best-starts' → best-insts'' ≡ best-insts' → x'' ≡ x'
-      → Stands b op here budget p₀ lows₀ u (placing starts'' insts'') lows'' (stateOf x'' best-starts'' best-insts'') (row b op p₀ s (i + 1))
+      → Stands b op here budget p₀ lows₀ u (placing starts'' insts'') lows'' (stateOf x'' best-starts'' best-insts'') (row b s (i + 1))
   after-live {starts} {starts'} {starts''} {insts} {insts'} {insts''} {lows} {lows'} {lows''} {best-starts} {best-starts'} {best-starts''} {best-insts} {best-insts'} {best-insts''}
       {x} {x'} {x''} s i st l d w q e₁ e₂ e₃ e₄ e₅ e₆ =
       let p : Placing = placing starts insts in
@@ -349,9 +249,9 @@ module _ {b : Board} {op here budget : ℕ} {p₀ : Placing} {lows₀ : List ℕ
 
 -- the row of a start is done
 pub next-start : {b : Board} {op here budget : ℕ} {p₀ p₁ p : Placing} {lows₀ lows₁ lows : List ℕ} {u v₁ v : State Placing} (s i : ℕ)
-    → Stands b op here budget p₀ lows₀ u p₁ lows₁ v₁ (from-start b op p₀ s) → s ≤ b .t
-    → Stands b op here budget p₁ lows₁ (rest b op p₁ (row b op p₁ s 0) v₁) p lows v (row b op p₁ s i) → b .k ≤ i
-    → Stands b op here budget p₀ lows₀ u p lows v (from-start b op p₀ (s + 1))
+    → Stands b op here budget p₀ lows₀ u p₁ lows₁ v₁ (from-start b s) → s ≤ b .t
+    → Stands b op here budget p₁ lows₁ (rest b op p₁ (row b s 0) v₁) p lows v (row b s i) → b .k ≤ i
+    → Stands b op here budget p₀ lows₀ u p lows v (from-start b (s + 1))
 next-start {b} {op} {here} {budget} {p₀} {p₁} {p} {lows₀} {lows₁} {lows} {u} {v₁} {v} s i outer l inner q =
     record {
       able = inner .able;
@@ -364,7 +264,7 @@ next-start {b} {op} {here} {budget} {p₀} {p₁} {p} {lows₀} {lows₁} {lows}
 
 -- ---- the ends of a visit
 
-module _ {b : Board} {op : ℕ} {p : Placing} {lows : List ℕ} {here s i : ℕ} (w : Visitable b op p lows here s i) (x : Progress) (starts insts : List ℕ) (budget : ℕ) {low lowest cost' : ℕ}
+module _ {b : Board} {op : ℕ} {p : Placing} {lows : List ℕ} {here s i : ℕ} (w : Places b op op p lows here s i) (x : Progress) (starts insts : List ℕ) (budget : ℕ) {low lowest cost' : ℕ}
     (l : low ≡ cell lows (cell (b .types) i)) (m : lowest ≡ min low i)
     (c : cost' ≡ costWith (b .types) (b .costs) (set lows (cell (b .types) i) lowest) (b .k) here low i) {a : Arrival} (at : a ≡ arrival budget x cost') where
   abbrev more : Placing
@@ -374,7 +274,7 @@ module _ {b : Board} {op : ℕ} {p : Placing} {lows : List ℕ} {here s i : ℕ}
   end = walkFrom b (b .n - (op + 1)) more (stateOf x starts insts)
 
   now-cost : cost' ≡ cost b more
-  now-cost = next-walkable w l m c .tracks .costs
+  now-cost = next-ready w (op + 1) (omega arith) (omega arith) (omega (arith, w .more)) l m c .tracks .costs
 
   pub visit-none : (p' best' : Placing) (lows' : List ℕ) → a ≡ None → Walks budget end Spent p p' best' lows lows'
   visit-none p' best' lows' q =

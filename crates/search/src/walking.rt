@@ -2,8 +2,9 @@
 ghost use mathlib.Core.Path.{_≡_};
 ghost use Prim.Native.Nat.{_+_, _-_, _≤_};
 ghost use Rattle.placing.specs.Options.{put};
+ghost use Rattle.placing.specs.Ready.{boardWith, placing, optionAt, Ready, Places};
 ghost use Rattle.search.specs.Search.{walkFrom};
-ghost use Rattle.search.specs.Walking.{boardWith, placing, optionAt, stateOf, arrival, goesOn, Walkable, Visitable, Walks};
+ghost use Rattle.search.specs.Walking.{stateOf, arrival, goesOn, Walks};
 use crate::Arrival;
 use crate::Progress;
 use crate::Walked;
@@ -62,9 +63,9 @@ fn visit<'a>(
     so_far: Progress,
     budget: u32,
 ) -> Walked
-    requires { ⌜ Visitable
+    requires { ⌜ Places
         (boardWith n k t e wire clock (now from) (now to) (now types) (now costs) (now times) (now delays) (now spacings) (now lasts) (now near))
-        op (placing (now starts) (now insts)) (now lows) here s i
+        op op (placing (now starts) (now insts)) (now lows) here s i
         × («so_far» .visits ≤ budget) ⌝ }
     ensures { λ r. ⌜ Walks budget
         (walkFrom
@@ -154,7 +155,7 @@ pub(crate) fn walk<'a>(
     so_far: Progress,
     budget: u32,
 ) -> Walked
-    requires { ⌜ Walkable
+    requires { ⌜ Ready
         (boardWith n k t e wire clock (now from) (now to) (now types) (now costs) (now times) (now delays) (now spacings) (now lasts) (now near))
         op (placing (now starts) (now insts)) (now lows) here
         × («so_far» .visits ≤ budget) ⌝ }

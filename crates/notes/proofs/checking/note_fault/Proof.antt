@@ -24,7 +24,7 @@ cast-place : tie.Need-cast-place
 cast-place c = search needs
 
 place-requires : tie.Need-place-requires
-place-requires c κs = 
+place-requires c κs =
     let w = board-read _ (c .before .before .before .before .before .before .before .before .before .before .before .before .before .before .before .before .before .pre) (c .before .before .before .before .before .before .before .before .before .before .before .before .before .board-of .ensures) in
     let h = head-inside _ _ (sym (c .before .before .before .before .before .before .before .before .before .before .before .before .before .before .before .head-fault .ensures) ∙ c .before .before .before .before .before .before .before .before .before .before .before .before .before .before .if1 .left) in
     (none-ready _ w _ (omega arith), h .0, h .1, omega arith)
@@ -33,7 +33,7 @@ enum-known-branch : tie.Need-enum-known-branch
 enum-known-branch c = search needs
 
 fill-fault-requires : tie.Need-fill-fault-requires
-fill-fault-requires c κs = 
+fill-fault-requires c κs =
     let h = head-inside _ _ (sym (c .before .before .before .before .before .before .before .before .before .before .before .before .before .before .before .before .before .before .before .head-fault .ensures) ∙ c .before .before .before .before .before .before .before .before .before .before .before .before .before .before .before .before .before .before .if1 .left) in
     let e = tree-inside _ (c .before .before .before .before .before .before .before .before .before .before .before .before .before .before .before .before .before .board-of .ensures) _ _ (c .before .before .before .before .before .before .before .before .before .before .before .before .before .before .before .before .before .before .before .head-fault .ensures) (c .before .before .before .before .before .before .before .before .before .before .before .before .before .before .before .before .before .before .if1 .left) (c .before .before .before .place .ensures .answers) (c .before .branch .given .1) in
     omega (arith, h .0)

@@ -2,26 +2,23 @@
 -- other is passed over; a child is read with its row placed, and the row is taken back.
 use Prim.Native.Nat.{ℕ, _+_, _-_, _*_, _<_, _≤_}
 use mathlib.Core.Path.{_≡_, refl, sym, ap, _∙_}
-use mathlib.Core.Bool.{Bool}
 use mathlib.Core.List.{List}
 use mathlib.Core.Logic.{⊎-elim}
 use native.Mathlib.Omega.{arith}
 use borrow.Author.Needs.{needs}
 use borrow.Author.Tests.{not-true, not-false}
 use borrow.Fn.Kinds.{In, Out}
-use lib.ListN.{length, set}
+use lib.ListN.{length}
 use Rattle.basics.specs.Tables.{cell}
 use Rattle.sheets.specs.Limits.{opCells, instCells, typeCells, maxSteps}
-use Rattle.placing.specs.Closing.{Turn, inTurn, allowed, closable, splitOn}
-use Rattle.placing.specs.Options.{Option, put, liveOnes}
+use Rattle.placing.specs.Closing.{Turn, inTurn, splitOn}
+use Rattle.placing.specs.Options.{put, liveOnes}
 use Rattle.placing.specs.Placing.{Placing, live}
-use Rattle.placing.specs.Ready.{boardWith, placing, optionAt, Ready}
-use Rattle.placing.specs.declared.Board.{Board}
-use Rattle.placing.specs.declared.Claim.{Claim}
+use Rattle.placing.specs.Ready.{boardWith, placing, optionAt}
 use Rattle.placing.proofs.BoardLaws.{few-insts, few-ops, few-steps, near-leads, type-small}
 use Rattle.placing.proofs.RowLaws.{row, from-start, first-positive, first-rows}
-use Rattle.placing.proofs.ReadyLaws.{restored, fits-ready, next-ready}
-use Rattle.placing.proofs.TurnLaws.{Stands, after-dead, after-live, stops-at, stands-end, begin-start, next-start}
+use Rattle.placing.proofs.ReadyLaws.{restored, rows-back, may-close, fits-ready, next-ready}
+use Rattle.placing.proofs.TurnLaws.{Stands, stands-whole, after-dead, after-live, stops-at, stands-end, begin-start, next-start}
 use Rattle.notes.specs.NoteSheet.{markBits}
 use Rattle.notes.specs.Reading.{placeAt, branchOf, Reads}
 use Rattle.notes.specs.declared.Branch.{Branch}
@@ -62,14 +59,6 @@ place-at t = and 4 place-kinds.ps (is 4 place-kinds.ps μ-place t) place.Pre
 
 abbrev place-below : ℕ → In 4 place-kinds.ps
 place-below t = and 4 place-kinds.ps (falls 4 place-kinds.ps _<_ μ-place t) place.Pre
-
--- rows placed and taken back
-rows-back : (starts insts starts' insts' : List ℕ) (op s i : ℕ) → placing starts' insts' ≡ placing (set starts op s) (set insts op i)
-    → placing (set starts' op (cell starts op)) (set insts' op (cell insts op)) ≡ placing starts insts
-rows-back starts insts starts' insts' op s i e =
-    let a = restored op s (ap (λ (p : Placing). p .starts) e) refl in
-    let b = restored op i (ap (λ (p : Placing). p .insts) e) refl in
-    λ j. placing (a j) (b j)
 
 -- an answer that leaves everything as it was
 kept : {t : Turn ℕ} {r : Branch} {p : Placing} {lows : List ℕ} → r ≡ branchOf t → Reads t r p p lows lows
@@ -221,11 +210,6 @@ abbrev PlaceNeed : ((cs : place-lts.Claims) → In 4 place-kinds.ps → Out 4 pl
     → place-lts.InvT-loop → place-lts.MeasureT-loop → Type 0) → Type 0
 PlaceNeed N = (t : ℕ) → PlaceAt N t
 
--- the code's test is whether the place may be closed
-may-close : {b : Board} (claim : Claim) {reach here : ℕ} {p : Placing} {lows : List ℕ} {may : Bool} → may ≡ allowed claim here → Ready b reach p lows here
-    → may ≡ closable b claim p
-may-close {b} claim e w = e ∙ ap (allowed claim) (w .tracks .costs)
-
 -- the mark splits on an operation that is not placed, ends inside the note, and its children are what is left of the place
 op-free : (t : ℕ) (c : PlaceAt place-lts.After-split-op t)
     → let a = c .before .before .before .before .before .before .before .before .before .before .args in
@@ -280,11 +264,6 @@ whole-same t c =
     let inner = c .before .loop2 .inv .4 in
     let outer = c .before .before .before .loop .inv .2 in
     (inner .same ∙ outer .same, inner .same-lows ∙ outer .same-lows)
-
--- where a loop stands, on the way to another end
-stands-whole : {b : Board} {reach op here : ℕ} {f : Placing → ℕ → Turn ℕ} {p₀ p : Placing} {lows₀ lows : List ℕ} {u v : Turn ℕ} {x : ℕ} {rs : List Option}
-    → Stands b reach op here f p₀ lows₀ u p lows x rs → inTurn f (liveOnes b p op rs) x ≡ v → Stands b reach op here f p lows v p lows x rs
-stands-whole w e = record { able = w .able; more = w .more; free = w .free; same = refl; same-lows = refl; leads = e }
 
 -- an option is live exactly where the code's test holds
 lives : (t : ℕ) (c : PlaceAt place-lts.After-fits2 t)

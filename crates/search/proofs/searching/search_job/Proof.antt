@@ -1,7 +1,9 @@
 -- The walk begins with nothing placed; its end decides.
+use Rattle.placing.proofs.ReadyLaws.{none-ready}
 use Rattle.placing.specs.Bound.{taken, walk}
 use Rattle.placing.specs.Placing.{cost, smallest}
-use Rattle.search.proofs.SearchSteps.{begins, best-long, board-read, ends-found, ends-none, ends-spent, few-units, first-kept, plan-is, read-limits, start-over, walk-done, walk-spent}
+use Rattle.placing.proofs.BoardLaws.{board-read, read-limits}
+use Rattle.search.proofs.SearchSteps.{best-long, ends-found, ends-none, ends-spent, few-units, first-kept, plan-is, start-over, walk-done, walk-spent}
 use Rattle.search.specs.Search.{walked}
 use Rattle.search.specs.Walking.{arrival}
 use borrow.Author.Needs.{needs}
@@ -34,7 +36,7 @@ returns c =
 
 walk-requires : tie.Need-walk-requires
 walk-requires c κs =
-    (begins _ (board-read _ (c .before .before .before .before .before .before .before .before .before .before .before .before .before .before .before .before .before .before .before .before .before .pre) (c .before .before .before .before .before .before .before .before .before .before .before .before .before .before .before .before .before .before .before .board-of .ensures)), first-kept (c .before .before .before .before .before .before .before .before .before .before .before .before .before .before .before .before .before .before .arrive .ensures) (c .before .before .before .before .before .before .before .before .before .before .before .before .before .before .before .before .arrival .given .1))
+    (none-ready _ (board-read _ (c .before .before .before .before .before .before .before .before .before .before .before .before .before .before .before .before .before .before .before .before .before .pre) (c .before .before .before .before .before .before .before .before .before .before .before .before .before .before .before .before .before .before .before .board-of .ensures)) 0 (omega arith), first-kept (c .before .before .before .before .before .before .before .before .before .before .before .before .before .before .before .before .before .before .arrive .ensures) (c .before .before .before .before .before .before .before .before .before .before .before .before .before .before .before .before .arrival .given .1))
 
 enum-known-walked : tie.Need-enum-known-walked
 enum-known-walked c = search needs

@@ -3,13 +3,15 @@
 use Prim.Native.Nat.{_*_, _+_, _-_, _<_, _≤_, ℕ}
 use Rattle.basics.specs.Tables.{cell}
 use Rattle.placing.proofs.BoardLaws.{few-insts, few-ops, few-steps, near-leads, type-small}
+use Rattle.placing.proofs.ReadyLaws.{fits-in-order, next-ready}
+use Rattle.placing.proofs.RowLaws.{first-positive, from-start, row, same-first}
 use Rattle.placing.specs.Bound.{taken}
 use Rattle.placing.specs.Fitting.{firstStart}
 use Rattle.placing.specs.Options.{put}
 use Rattle.placing.specs.Placing.{live}
-use Rattle.search.proofs.SearchSteps.{begins}
-use Rattle.search.proofs.WalkLaws.{Stands, after-dead, after-live, begin-row, end-starts, first-positive, fits-here, from-start, goes-first, goes-leaf, next-kept, next-start, next-walkable, past-live, rest, row, same-first, spent-end, spent-from, visit-done, visit-none, visit-out, visit-spent, walks-done, walks-spent}
-use Rattle.search.specs.Walking.{arrival, boardWith, goesOn, optionAt, placing, stateOf}
+use Rattle.placing.specs.Ready.{boardWith, optionAt, placing}
+use Rattle.search.proofs.WalkLaws.{Stands, after-dead, after-live, begin-row, end-starts, goes-first, goes-leaf, next-kept, next-start, past-live, rest, spent-end, spent-from, visit-done, visit-none, visit-out, visit-spent, walks-done, walks-spent}
+use Rattle.search.specs.Walking.{arrival, goesOn, stateOf}
 use Rattle.sheets.specs.Limits.{instCells, maxSteps, opCells, typeCells}
 use borrow.Author.Needs.{needs}
 use mathlib.Core.Logic.{⊎-elim}
@@ -27,7 +29,7 @@ use Rattle.placing.proofs.costing.cost_with.Reads as cost-with-reads
 use Rattle.placing.proofs.fitting.first_start.Reads as first-start-reads
 use Rattle.placing.proofs.fitting.fits.Reads as fits-reads
 use Rattle.search.proofs.walking.arrive.Reads as arrive-reads
-use Rattle.search.proofs.walking.lower.Reads as lower-reads
+use Rattle.placing.proofs.costing.lower.Reads as lower-reads
 use Rattle.search.proofs.walking.+visit+walk.{statement}
 use Rattle.search.proofs.walking.+visit+walk.Tie.{close}
 
@@ -166,7 +168,7 @@ visit-walk-requires t c κs =
     let s = c .before .before .before .before .before .before .before .before .before .before .before .before .before .before .before .before .before .before .before in (
       omega (arith, s .pre .0, s .pre .1 .0 .more),
       (
-        next-walkable (s .pre .1 .0) refl (c .before .before .before .before .before .before .before .before .before .before .before .before .before .before .before .before .lower .ensures) (c .before .before .before .before .before .before .before .before .before .before .before .cost-with .ensures),
+        next-ready (s .pre .1 .0) (s .args .op + 1) (omega arith) (omega arith) (omega (arith, s .pre .1 .0 .more)) refl (c .before .before .before .before .before .before .before .before .before .before .before .before .before .before .before .before .lower .ensures) (c .before .before .before .before .before .before .before .before .before .before .before .cost-with .ensures),
         next-kept (c .before .before .before .before .before .before .before .before .before .before .before .before .before .before .before .before .before .before .before .pre .1 .0) (s .args .so-far) (s .args .best-starts .now) (s .args .best-insts .now) (s .args .budget) refl (c .before .before .before .before .before .before .before .before .before .before .before .before .before .before .before .before .lower .ensures) (c .before .before .before .before .before .before .before .before .before .before .before .cost-with .ensures) (c .before .before .before .before .before .before .before .before .before .before .arrive .ensures) (c .before .before .before .before .before .before .before .before .arrival2 .given .1),
       ),
     )
@@ -223,8 +225,8 @@ abbrev walk-Inv-loop2 : walk-lts.InvT-loop2
 walk-Inv-loop2 n k t e wire clock from to types costs times delays spacings lasts near op here starts₀ insts₀ lows₀ best-starts₀ best-insts₀ budget state₀ first s i₀ starts insts lows best-starts best-insts state i =
     (1 ≤ s) × (s ≤ t) × (i ≤ k) × (first ≡ firstStart delays near starts₀ insts₀ op op)
     × Stands (boardWith n k t e wire clock from to types costs times delays spacings lasts near) op here budget (placing starts₀ insts₀) lows₀
-    (rest (boardWith n k t e wire clock from to types costs times delays spacings lasts near) op (placing starts₀ insts₀) (row (boardWith n k t e wire clock from to types costs times delays spacings lasts near) op (placing starts₀ insts₀) s i₀) (stateOf state₀ best-starts₀ best-insts₀))
-    (placing starts insts) lows (stateOf state best-starts best-insts) (row (boardWith n k t e wire clock from to types costs times delays spacings lasts near) op (placing starts₀ insts₀) s i)
+    (rest (boardWith n k t e wire clock from to types costs times delays spacings lasts near) op (placing starts₀ insts₀) (row (boardWith n k t e wire clock from to types costs times delays spacings lasts near) s i₀) (stateOf state₀ best-starts₀ best-insts₀))
+    (placing starts insts) lows (stateOf state best-starts best-insts) (row (boardWith n k t e wire clock from to types costs times delays spacings lasts near) s i)
 
 abbrev walk-μ-loop2 : walk-lts.MeasureT-loop2
 walk-μ-loop2 n k t e wire clock from to types costs times delays spacings lasts near op here starts₀ insts₀ lows₀ best-starts₀ best-insts₀ budget state₀ first s i₀ starts insts lows best-starts best-insts state i =
@@ -234,8 +236,8 @@ abbrev walk-Inv-loop : walk-lts.InvT-loop
 walk-Inv-loop n k t e wire clock from to types costs times delays spacings lasts near op here starts₀ insts₀ lows₀ best-starts₀ best-insts₀ budget state₀ first s₀ starts insts lows best-starts best-insts state s =
     (1 ≤ s) × (first ≡ firstStart delays near starts₀ insts₀ op op)
     × Stands (boardWith n k t e wire clock from to types costs times delays spacings lasts near) op here budget (placing starts₀ insts₀) lows₀
-    (rest (boardWith n k t e wire clock from to types costs times delays spacings lasts near) op (placing starts₀ insts₀) (from-start (boardWith n k t e wire clock from to types costs times delays spacings lasts near) op (placing starts₀ insts₀) s₀) (stateOf state₀ best-starts₀ best-insts₀))
-    (placing starts insts) lows (stateOf state best-starts best-insts) (from-start (boardWith n k t e wire clock from to types costs times delays spacings lasts near) op (placing starts₀ insts₀) s)
+    (rest (boardWith n k t e wire clock from to types costs times delays spacings lasts near) op (placing starts₀ insts₀) (from-start (boardWith n k t e wire clock from to types costs times delays spacings lasts near) s₀) (stateOf state₀ best-starts₀ best-insts₀))
+    (placing starts insts) lows (stateOf state best-starts best-insts) (from-start (boardWith n k t e wire clock from to types costs times delays spacings lasts near) s)
 
 abbrev walk-μ-loop : walk-lts.MeasureT-loop
 walk-μ-loop n k t e wire clock from to types costs times delays spacings lasts near op here starts₀ insts₀ lows₀ best-starts₀ best-insts₀ budget state₀ first s₀ starts insts lows best-starts best-insts state s =
@@ -265,14 +267,14 @@ goes-on : (t : ℕ) (c : WalkAt walk-lts.In-loop2 t)
     → let a = c .before .before .before .before .before .before .before .before .before .args in
     let w = c .before .loop2 in
     let b = boardWith (a .n) (a .k) (a .t) (a .e) (a .wire) (a .clock) (a .from .now) (a .to .now) (a .types .now) (a .costs .now) (a .times .now) (a .delays .now) (a .spacings .now) (a .lasts .now) (a .near .now) in
-    rest b (a .op) (placing (w .starts) (w .insts)) (row b (a .op) (placing (w .starts) (w .insts)) (c .before .before .before .loop .s) (w .i)) (stateOf (w .state) (w .best-starts) (w .best-insts))
+    rest b (a .op) (placing (w .starts) (w .insts)) (row b (c .before .before .before .loop .s) (w .i)) (stateOf (w .state) (w .best-starts) (w .best-insts))
     ≡ goesOn b (a .n - a .op) (placing (a .starts .now) (a .insts .now)) (stateOf (a .so-far) (a .best-starts .now) (a .best-insts .now))
 goes-on t c =
     let s = c .before .before .before .before .before .before .before .before .before in
     let f = c .before .before .before .before .first-start .ensures in
     c .before .loop2 .inv .4 .goes
     ∙ begin-row _ _ _ _ _ _ (c .before .before .loop-test .taken) (c .before .before .before .loop .inv .2 .goes)
-    ∙ sym (goes-first (s .pre .1 .0) (omega (arith, s .pre .1 .0 .few, c .before .before .before .before .before .before .before .before .if1 .left)) _ _ f (rw f (first-positive _ _ _ _ _ _)))
+    ∙ sym (goes-first (s .pre .1 .0) (omega (arith, s .pre .1 .0 .few, c .before .before .before .before .before .before .before .before .if1 .left)) _ _ f)
 
 -- an option is live exactly where the code's test holds
 lives : (t : ℕ) (c : WalkAt walk-lts.After-fits2 t)
@@ -281,7 +283,7 @@ lives : (t : ℕ) (c : WalkAt walk-lts.After-fits2 t)
     live (boardWith (a .n) (a .k) (a .t) (a .e) (a .wire) (a .clock) (a .from .now) (a .to .now) (a .types .now) (a .costs .now) (a .times .now) (a .delays .now) (a .spacings .now) (a .lasts .now) (a .near .now)) (put (placing (w .starts) (w .insts)) (a .op) (optionAt (c .before .before .before .before .before .before .before .before .before .before .before .before .loop .s) (w .i))) ≡ c .fits2 .result
 lives t c =
     let w = c .before .before .before .before .before .before .before .before .before .before .loop2 .inv in
-    fits-here (w .4 .able) (w .4 .more) _ _ _ (same-first _ _ _ (w .4 .same) (w .3)) (w .0) (c .before .before .before .before .before .before .before .before .before .loop2-test .taken) (c .fits2 .ensures)
+    fits-in-order (w .4 .able) (w .4 .more) _ _ _ (same-first _ _ _ (w .4 .same) (w .3)) (w .0) (c .before .before .before .before .before .before .before .before .before .loop2-test .taken) (c .fits2 .ensures)
 
 walk-returns : WalkNeed walk-lts.Need-returns
 walk-returns t c =
@@ -326,6 +328,7 @@ walk-visit-requires t c κs =
         record {
           able = o .4 .able;
           more = o .4 .more;
+          free = o .4 .able .behind (c .before .before .before .before .before .before .before .before .before .before .before .before .before .before .before .before .before .before .before .before .before .before .before .before .args .op) (omega arith);
           begins = o .0;
           unit = c .before .before .before .before .before .before .before .before .before .before .before .before .before .before .before .loop2-test .taken;
           lives = lives t (c .before .before .before .before .before .before) ∙ c .before .before .before .before .before .if2 .taken;
@@ -384,7 +387,7 @@ walk-returns-3 t c =
     let s = c .before .before .before .before .before .before .before in
     let f = c .before .before .first-start .ensures in
     walks-done _ _ _ _ _ _ _ _ _
-    (goes-first (s .pre .1 .0) (omega (arith, c .before .before .before .before .before .before .before .pre .1 .0 .few, c .before .before .before .before .before .before .if1 .left)) _ _ f (rw f (first-positive _ _ _ _ _ _)) ∙ end-starts _ _ _ _ _ _ (c .loop-test .left) (v .goes))
+    (goes-first (s .pre .1 .0) (omega (arith, c .before .before .before .before .before .before .before .pre .1 .0 .few, c .before .before .before .before .before .before .if1 .left)) _ _ f ∙ end-starts _ _ _ _ _ _ (c .loop-test .left) (v .goes))
     (v .kept) (v .same) (v .same-lows)
 
 pub +visit+walk-spec : {M : Type 1} → statement M
