@@ -15,10 +15,14 @@ use Rattle.bits.specs.Bits.{bit, field, putField, Bytes}
 use Rattle.bits.specs.Sheet.{Field, total, bytesFor, fill, pack, putAll}
 use Rattle.bits.proofs.PutLaws.{put-same, put-right, length-put, bytes-put}
 use Rattle.bits.proofs.SheetLaws.{Fit, total-append, put-append, put-pack, length-pack}
-use Rattle.placing.specs.Closing.{Turn, goes, stops, andThen, goesIf, inTurn}
-use Rattle.notes.specs.NoteSheet.{closeMark, splitMark}
-use Rattle.house.specs.House.{writeIf, write, added}
-use Rattle.house.specs.Writing.{Draft, draft, drafted}
+use Rattle.placing.specs.Closing.{Turn, goes, stops, andThen, goesIf, inTurn, closable, splitOn}
+use Rattle.placing.specs.Options.{none}
+use Rattle.placing.specs.Placing.{Placing}
+use Rattle.placing.specs.declared.Board.{Board}
+use Rattle.placing.specs.declared.Claim.{Claim}
+use Rattle.notes.specs.NoteSheet.{closeMark, splitMark, headFields, splitBits}
+use Rattle.house.specs.House.{nextOp, writeIf, write, added, houseFields}
+use Rattle.house.specs.Writing.{Draft, draft, drafted, writeAt, draftFrom}
 
 -- ---- a draft of fields, put into bytes from their first bit on
 
@@ -128,3 +132,13 @@ front-pack size fs fit l =
     let same : t ≡ putField t w (fill w) 0 =
     sym (put-same t w (fill w) (bytes-put-all s 0 fs (bytes-blank size)) (omega arith)) ∙ ap (putField t w (fill w)) blank in
     ap (take (bytesFor w)) (same ∙ put-pack s fs (bytes-blank size) fit (omega arith)) ∙ take-at (pack fs) (drop (bytesFor w) s) (bytesFor w) (length-pack fs)
+
+-- ---- the whole note
+
+pub draft-from : (base : List ℕ) (b : Board) (claim : Claim) (room : ℕ) → draftFrom b claim room base ≡ mapped base (houseFields b claim room)
+unfolding draftFrom houseFields putAll total
+draft-from base b claim room =
+    let head : List Field = headFields (claim .plan) in
+    ap (λ (t : Turn Draft). andThen t (writeAt room splitBits b claim (b .n) none)) (draft-added base room head [])
+    ∙ mapped-then base (added room head []) (write Placing (closable b claim) (nextOp b) (splitOn b) splitBits (added room) (b .n) none) (writeAt room splitBits b claim (b .n) none)
+    (draft-write base room Placing (closable b claim) (nextOp b) (splitOn b) splitBits (b .n) none)

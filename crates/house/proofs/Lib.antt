@@ -3,3 +3,4 @@ pub mod DraftLaws
 pub mod HouseBoard
 pub mod NoteWritten
 pub mod WriteLaws
+pub mod WriterSteps

@@ -59,7 +59,7 @@ module _ (b : Board) (of : OfJob b) (claim : Claim) where
     abbrev writing : List Field → Turn (List Field)
     writing soFar = write Placing (closable b claim) (nextOp b) (splitOn b) splitBits (added room) (b .n) none soFar
 
-    fields-written : (fs : List Field) → houseFields b claim room ≡ goes fs → HouseCloses × (fs ≡ fields) × (total fs ≤ room)
+    pub fields-written : (fs : List Field) → houseFields b claim room ≡ goes fs → HouseCloses × (fs ≡ fields) × (total fs ≤ room)
     unfolding houseFields
     fields-written fs e =
         let (x, a, r) = then-goes (added room head []) writing fs e in

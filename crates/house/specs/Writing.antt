@@ -56,7 +56,8 @@ pub record Writes (room : ℕ) (t : Turn Draft) (r : Branch) (sheet sheet' : Lis
   pub same-lows : lows' ≡ lows
 
 -- the same of the whole note
-pub record Drafts (room : ℕ) (t : Turn Draft) (r : Branch) (sheet' : List ℕ) : Type 0 where
+pub record Drafts (room : ℕ) (t : Turn Draft) (r : Branch) (sheet sheet' : List ℕ) : Type 0 where
   pub answers : r ≡ branchOf (draftEnd t)
   pub bytes : (x : Draft) → t ≡ goes x → sheet' ≡ x .bytes
   pub inside : (end : ℕ) → r ≡ Closed end → end ≤ room
+  pub size : length sheet' ≡ length sheet

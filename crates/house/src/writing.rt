@@ -39,7 +39,7 @@ fn room_of(bytes: usize) -> usize
 // Writes header and tree to a blank sheet.
 fn write_sheet(job: Job, claim: Claim, room: usize, sheet: &mut [u8]) -> Branch
     requires { ⌜ WasRead job × (room ≤ 8 * length (now sheet)) × (room ≤ 8 * maxNote) ⌝ }
-    ensures { λ r. ⌜ Drafts room (draftFrom (boardOf job) claim room (now (sheet .entry))) r (now (sheet .exit)) ⌝ }
+    ensures { λ r. ⌜ Drafts room (draftFrom (boardOf job) claim room (now (sheet .entry))) r (now (sheet .entry)) (now (sheet .exit)) ⌝ }
 {
     if room < NOTE_HEAD {
         return Branch::Refused(OUTPUT_SHORT);

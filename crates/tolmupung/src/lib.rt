@@ -8,7 +8,10 @@ ghost use Rattle.basics.specs.Answers.{Promise};
 ghost use Rattle.sheets.specs.Answers.{writtenSays};
 ghost use Rattle.rules.specs.Judge.{judge, judgedSays};
 ghost use Rattle.search.specs.Search.{search as searchOf, searchOut, searchedSays};
+ghost use Rattle.notes.specs.Check.{checkNote, checkedSays};
+ghost use Rattle.house.specs.House.{writeNote, noteOut};
 use basics::Answer;
+use notes::checking::checked_says;
 use rules::judging::judged_says;
 use search::searching::searched_says;
 use sheets::Job;
@@ -80,4 +83,18 @@ pub extern "C" fn tolmupung_search(job: &[u8], budget: u32, out: &mut [u8]) -> A
     ensures { λ r. ⌜ Promise (searchedSays (searchOf (now (job .entry)) budget (length (now (out .entry))))) (searchOut (now (job .entry)) budget (now (out .entry))) r (now (out .exit)) ⌝ }
 {
     searched_says(search::searching::search(job, budget, out))
+}
+
+#[no_mangle]
+pub extern "C" fn tolmupung_check_note(job: &[u8], plan: &[u8], note: &[u8]) -> Answer
+    ensures { λ r. ⌜ r ≡ checkedSays (checkNote (now (job .entry)) (now (plan .entry)) (now (note .entry))) ⌝ }
+{
+    checked_says(notes::checking::check_note(job, plan, note))
+}
+
+#[no_mangle]
+pub extern "C" fn tolmupung_write_note(job: &[u8], plan: &[u8], out: &mut [u8]) -> Answer
+    ensures { λ r. ⌜ Promise (writtenSays (writeNote (now (job .entry)) (now (plan .entry)) (length (now (out .entry))))) (noteOut (now (job .entry)) (now (plan .entry)) (now (out .entry))) r (now (out .exit)) ⌝ }
+{
+    written_says(house::writing::write_note(job, plan, out))
 }

@@ -141,7 +141,7 @@ write-child-add-write-place : ChildNeed write-child-lts.Need-add-write-place
 write-child-add-write-place t c = let z = child-small t (c .before .before .before .before .before .before .before .before .before .before .before) in omega arith
 
 write-child-write-place-requires : ChildNeed write-child-lts.Need-write-place-requires
-write-child-write-place-requires t c κs = 
+write-child-write-place-requires t c κs =
     let s = c .before .before .before .before .before .before .before .before .before .before .before .before .before .before .before in
     let w = s .pre .1 in (
       omega (arith, s .pre .0, w .0 .more),
@@ -178,7 +178,7 @@ write-child-same-length : ChildNeed write-child-lts.Need-same-length
 write-child-same-length t c = search needs
 
 write-child-returns : ChildNeed write-child-lts.Need-returns
-write-child-returns t c = 
+write-child-returns t c =
     let r = c .before .before .write-place .ensures in
     record {
       answers = r .answers;
@@ -320,7 +320,7 @@ write-place-returns-4 : PlaceNeed write-place-lts.Need-returns-4
 write-place-returns-4 t c = ends-stopped refl refl refl refl (split-stops _ _ _ _ _ _ _ (may-close _ (c .before .before .before .allowed .ensures) (c .before .before .before .before .before .pre .1 .0)) (c .before .before .before .before .before .pre .1 .0 .few) (c .before .before .if1 .left) (next-is (c .before .before .before .before .before .pre .1 .0) (c .before .before .before .before .before .pre .1 .1) (c .before .before .if1 .left)) (c .before .if2 .left) (c .if4 .taken))
 
 write-place-put-split-requires : PlaceNeed write-place-lts.Need-put-split-requires
-write-place-put-split-requires t c κs = 
+write-place-put-split-requires t c κs =
     let w = c .before .before .before .before .before .before .pre .1 in
     (omega (arith, c .before .if4 .left, w .2), w .6, omega (arith, w .0 .few, c .before .before .before .if1 .left, w .5), omega (arith, w .3, w .4))
 
@@ -331,16 +331,15 @@ write-place-add-next-2 : PlaceNeed write-place-lts.Need-add-next-2
 write-place-add-next-2 t c = let w = c .before .before .before .before .before .before .before .before .before .pre .1 in omega (arith, w .3, w .4, w .6)
 
 write-place-first-start-requires : PlaceNeed write-place-lts.Need-first-start-requires
-write-place-first-start-requires t c κs = 
+write-place-first-start-requires t c κs =
     let w = c .before .before .before .before .before .before .before .before .before .before .before .before .pre .1 .0 in
     let l = op-less w (c .before .before .before .before .before .before .before .before .before .if1 .left) in
     (omega (arith, l, few-ops _ (w .of)), near-leads _ (w .of) _ l)
 
 write-place-loop-holds : PlaceNeed write-place-lts.Need-loop-holds
-write-place-loop-holds t c = 
+write-place-loop-holds t c =
     let w = c .before .before .before .before .before .before .before .before .before .before .before .before .before .pre .1 in
-    let e = c .first-start .ensures in
-    (
+    let e = c .first-start .ensures in (
       rw e (first-positive _ _ _ _ _ _),
       e,
       omega (arith, c .before .before .before .before .before .before .before .before .if4 .left),
@@ -349,9 +348,8 @@ write-place-loop-holds t c =
     )
 
 write-place-loop2-holds : PlaceNeed write-place-lts.Need-loop2-holds
-write-place-loop2-holds t c = 
-    let v = c .before .loop .inv in
-    (
+write-place-loop2-holds t c =
+    let v = c .before .loop .inv in (
       v .0,
       c .loop-test .taken,
       omega arith,
@@ -365,7 +363,7 @@ write-place-cast-fits : PlaceNeed write-place-lts.Need-cast-fits
 write-place-cast-fits t c = let z = place-small t (c .before .before .before .before .before .before .before .before) in omega (arith, c .before .before .before .before .before .before .before .before .before .loop2 .inv .1)
 
 write-place-fits-requires : PlaceNeed write-place-lts.Need-fits-requires
-write-place-fits-requires t c κs = 
+write-place-fits-requires t c κs =
     let o = c .before .before .before .before .before .before .before .before .before .loop2 .inv .6 in
     let z = place-small t (c .before .before .before .before .before .before .before .before) in
     (omega arith, z .0, omega arith, o .able .starts-long, near-leads _ (o .able .of) _ (o .more))
@@ -374,7 +372,7 @@ write-place-cast-write-child : PlaceNeed write-place-lts.Need-cast-write-child
 write-place-cast-write-child t c = let z = place-small t (c .before .before .before .before .before .before .before .before .before .before) in omega (arith, c .before .before .before .before .before .before .before .before .before .before .before .loop2 .inv .1)
 
 write-place-write-child-requires : PlaceNeed write-place-lts.Need-write-child-requires
-write-place-write-child-requires t c κs = 
+write-place-write-child-requires t c κs =
     let o = c .before .before .before .before .before .before .before .before .before .before .before .before .before .before .before .loop2 .inv in
     let s = c .before .before .before .before .before .before .before .before .before .before .before .before .before .before .before .before .before .before .before .before .before .before .before .before .before .before .before .before .before .before .before in (
       omega (arith, s .pre .0, o .6 .more),
@@ -406,7 +404,7 @@ write-place-same-length-2 : PlaceNeed write-place-lts.Need-same-length-2
 write-place-same-length-2 t c = c .before .before .before .before .write-child .ensures .size ∙ whole-size t (c .before .before .before .before .before .before .before .before .before .before .before .before .before .before .before .before .before .before .before)
 
 write-place-returns-5 : PlaceNeed write-place-lts.Need-returns-5
-write-place-returns-5 t c = 
+write-place-returns-5 t c =
     let o = c .before .before .before .before .before .before .before .before .before .before .before .before .before .before .before .before .before .before .before .before .loop2 .inv .6 in
     let l = lives t (c .before .before .before .before .before .before .before .before .before .before) ∙ c .before .before .before .before .before .before .before .before .before .if5 .taken in
     let r = c .before .before .before .before .write-child .ensures in
@@ -421,7 +419,7 @@ write-place-loop2-less : PlaceNeed write-place-lts.Need-loop2-less
 write-place-loop2-less t c = let z = place-small t (c .before .before .before .before .before .before .before .before .before .before) in omega arith
 
 write-place-loop2-again : PlaceNeed write-place-lts.Need-loop2-again
-write-place-loop2-again t c = 
+write-place-loop2-again t c =
     let o = c .before .before .before .before .before .before .before .before .before .before .before .loop2 .inv in
     let l = c .before .before .before .before .before .before .before .before .before .before .loop2-test .taken in (
       o .0,
@@ -443,7 +441,7 @@ write-place-loop-less : PlaceNeed write-place-lts.Need-loop-less
 write-place-loop-less t c = omega (arith, c .before .before .loop-test .taken)
 
 write-place-loop-again : PlaceNeed write-place-lts.Need-loop-again
-write-place-loop-again t c = 
+write-place-loop-again t c =
     let o = c .before .loop2 .inv in
     let v = c .before .before .before .loop .inv in
     (omega arith, v .1, o .4, o .5 ∙ v .3, next-start _ _ (v .4) (c .before .before .loop-test .taken) (o .6) (c .loop2-test .left))
@@ -452,7 +450,7 @@ write-place-same-length-3 : PlaceNeed write-place-lts.Need-same-length-3
 write-place-same-length-3 t c = c .before .loop .inv .3 ∙ split-length _ _ _ _ (c .before .before .before .before .before .before .before .before .put-split .ensures)
 
 write-place-returns-6 : PlaceNeed write-place-lts.Need-returns-6
-write-place-returns-6 t c = 
+write-place-returns-6 t c =
     let v = c .before .loop .inv in
     ends-closed (v .3 ∙ split-length _ _ _ _ (c .before .before .before .before .before .before .before .before .put-split .ensures)) (v .4 .same) (v .4 .same-lows) refl (from-mark t (c .before .before) _ (c .before .before .before .before .before .before .before .before .put-split .ensures) ∙ stands-end _ (v .4) (c .loop-test .left)) (v .2)
 

@@ -31,10 +31,9 @@ loop-less : tie.Need-loop-less Inv-loop μ-loop
 loop-less c = omega arith
 
 loop-again : tie.Need-loop-again Inv-loop μ-loop
-loop-again c = 
+loop-again c =
     let v = c .before .before .loop .inv in
-    let s = c .before .before .before in
-    (
+    let s = c .before .before .before in (
       omega arith,
       rw (v .1) (copied (s .args .sheet .now) (s .args .out .now) (c .before .before .loop .i) (omega (arith, s .pre .0)) (omega (arith, s .pre .1))),
       simp length-set (v .2),
@@ -44,7 +43,7 @@ same-length : tie.Need-same-length Inv-loop μ-loop
 same-length c = c .before .loop .inv .2
 
 returns : tie.Need-returns Inv-loop μ-loop
-returns c = 
+returns c =
     let v = c .before .loop .inv in
     let e : c .before .loop .i ≡ c .before .before .args .count = omega (arith, v .0, c .loop-test .left) in
     rw (← e) (v .1)

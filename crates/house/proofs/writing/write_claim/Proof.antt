@@ -1,65 +1,49 @@
+-- The sheet is written from blank bytes; a whole one is copied.
 use borrow.Author.Needs.{needs}
 use Rattle.house.proofs.writing.write_claim.Statement.{statement}
 use Rattle.house.proofs.writing.write_claim.Tie as tie
-use Rattle.house.proofs.writing.write_claim.Reads as reads
-use Rattle.house.proofs.writing.write_claim.Lts as lts
-use Rattle.bits.proofs.bytes_for.Reads as bytes-for-reads
-use Rattle.house.proofs.writing.copy_front.Reads as copy-front-reads
-use Rattle.house.proofs.writing.room_of.Reads as room-of-reads
-use Rattle.house.proofs.writing.stopped.Reads as stopped-reads
-use Rattle.house.proofs.writing.write_sheet.Reads as write-sheet-reads
+use mathlib.Core.Path.{refl}
+use native.Mathlib.Omega.{arith}
+use Rattle.house.proofs.WriterSteps.{blank-room, end-inside, ends-written, ends-refused}
 
--- src/writing.rt:116:35
 room-of-requires : tie.Need-room-of-requires
 room-of-requires c κs = search needs
 
--- src/writing.rt:116:55
 slice-aggregate-write-sheet : tie.Need-slice-aggregate-write-sheet
 slice-aggregate-write-sheet c = search needs
 
--- src/writing.rt:116:11
 write-sheet-requires : tie.Need-write-sheet-requires
-write-sheet-requires c κs = ?
+write-sheet-requires c κs = (c .before .before .before .pre, rw (c .before .room-of .ensures) (blank-room _), rw (c .before .room-of .ensures) (omega arith))
 
--- src/writing.rt:117:24
 enum-known-end : tie.Need-enum-known-end
 enum-known-end c = search needs
 
--- src/writing.rt:118:17
 bytes-for-requires : tie.Need-bytes-for-requires
-bytes-for-requires c κs = ?
+bytes-for-requires c κs = let l = end-inside _ (c .before .before .before .before .before .before .before .before .pre) _ (c .before .before .before .before .before .before .before .before .args .out .now) (c .before .before .before .before .before .before .room-of .ensures) refl (c .before .before .before .before .write-sheet .ensures) (c .before .end .given .1) in omega (arith, l .2)
 
--- src/writing.rt:119:24
 slice-aggregate-copy-front : tie.Need-slice-aggregate-copy-front
 slice-aggregate-copy-front c = search needs
 
--- src/writing.rt:119:13
 copy-front-requires : tie.Need-copy-front-requires
-copy-front-requires c κs = ?
+copy-front-requires c κs = let l = end-inside _ (c .before .before .before .before .before .before .before .before .before .before .before .pre) _ (c .before .before .before .before .before .before .before .before .before .before .before .args .out .now) (c .before .before .before .before .before .before .before .before .before .room-of .ensures) refl (c .before .before .before .before .before .before .before .write-sheet .ensures) (c .before .before .before .before .end .given .1) in rw (c .before .before .bytes-for .ensures) (l .1, l .0)
 
--- src/writing.rt:121:25
 cast-t19 : tie.Need-cast-t19
-cast-t19 c = ?
+cast-t19 c = let l = end-inside _ (c .before .before .before .before .before .before .before .before .before .before .before .before .before .before .pre) _ (c .before .before .before .before .before .before .before .before .before .before .before .before .before .before .args .out .now) (c .before .before .before .before .before .before .before .before .before .before .before .before .room-of .ensures) refl (c .before .before .before .before .before .before .before .before .before .before .write-sheet .ensures) (c .before .before .before .before .before .before .before .end .given .1) in rw (c .before .before .before .before .before .bytes-for .ensures) (omega (arith, l .2))
 
--- src/writing.rt:124:25
 enum-known-number : tie.Need-enum-known-number
 enum-known-number c = search needs
 
--- src/writing.rt:124:36
 stopped-requires : tie.Need-stopped-requires
 stopped-requires c κs = search needs
 
--- src/writing.rt:111:1
 same-length : tie.Need-same-length
 same-length c = search needs
 
--- src/writing.rt:111:1
 returns : tie.Need-returns
-returns c = ?
+returns c = rw (c .before .before .before .before .before .bytes-for .ensures) (ends-written _ (c .before .before .before .before .before .before .before .before .before .before .before .before .before .before .pre) _ (c .before .before .before .before .before .before .before .before .before .before .before .before .before .before .args .out .now) (c .before .before .before .before .before .before .before .before .before .before .before .before .room-of .ensures) refl (c .before .before .before .before .before .before .before .before .before .before .write-sheet .ensures) (c .before .before .before .before .before .before .before .end .given .1) (rw (c .before .before .before .before .before .bytes-for .ensures) at (c .before .before .copy-front .ensures)))
 
--- src/writing.rt:111:1
 returns-2 : tie.Need-returns-2
-returns-2 c = ?
+returns-2 c = ends-refused _ (c .before .before .before .before .before .before .before .before .before .pre) _ (c .before .before .before .before .before .before .before .before .before .args .out .now) (c .before .before .before .before .before .before .before .room-of .ensures) refl (c .before .before .before .before .before .write-sheet .ensures) (c .before .before .number .given .1) (c .stopped .ensures)
 
 pub write-claim-spec : {M : Type 1} → statement M
 write-claim-spec =

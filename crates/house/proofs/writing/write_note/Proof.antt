@@ -1,38 +1,30 @@
+-- The note is written as it is claimed; where nothing is, that is the answer.
 use borrow.Author.Needs.{needs}
 use Rattle.house.proofs.writing.write_note.Statement.{statement}
 use Rattle.house.proofs.writing.write_note.Tie as tie
-use Rattle.house.proofs.writing.write_note.Reads as reads
-use Rattle.house.proofs.writing.write_note.Lts as lts
-use Rattle.house.proofs.writing.write_claim.Reads as write-claim-reads
-use Rattle.notes.proofs.claims.ask.Reads as ask-reads
+use Rattle.notes.proofs.ReadLaws.{claim-read}
+use Rattle.house.proofs.WriterSteps.{write-claimed, write-unclaimed}
 
--- src/writing.rt:132:9
 ask-requires : tie.Need-ask-requires
 ask-requires c κs = search needs
 
--- src/writing.rt:136:25
 enum-known-claimed : tie.Need-enum-known-claimed
 enum-known-claimed c = search needs
 
--- src/writing.rt:136:35
 write-claim-requires : tie.Need-write-claim-requires
-write-claim-requires c κs = ?
+write-claim-requires c κs = claim-read _ _ (c .before .before .before .before .before .ask .ensures) (c .before .before .claimed .given .1)
 
--- src/writing.rt:137:28
 enum-known-claimed-2 : tie.Need-enum-known-claimed-2
 enum-known-claimed-2 c = search needs
 
--- src/writing.rt:129:1
 same-length : tie.Need-same-length
 same-length c = search needs
 
--- src/writing.rt:129:1
 returns : tie.Need-returns
-returns c = ?
+returns c = write-claimed _ _ _ (c .before .before .before .before .before .before .before .before .ask .ensures) (c .before .before .before .before .before .claimed .given .1) (c .before .before .write-claim .ensures)
 
--- src/writing.rt:129:1
 returns-2 : tie.Need-returns-2
-returns-2 c = ?
+returns-2 c = write-unclaimed _ _ _ (c .before .before .before .before .ask .ensures) (c .before .claimed2 .given .1)
 
 pub write-note-spec : {M : Type 1} → statement M
 write-note-spec =

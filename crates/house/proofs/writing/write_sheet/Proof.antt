@@ -1,52 +1,54 @@
+-- The header, then the tree from nothing placed.
 use borrow.Author.Needs.{needs}
 use Rattle.house.proofs.writing.write_sheet.Statement.{statement}
 use Rattle.house.proofs.writing.write_sheet.Tie as tie
-use Rattle.house.proofs.writing.write_sheet.Reads as reads
-use Rattle.house.proofs.writing.write_sheet.Lts as lts
-use Rattle.basics.proofs.only.Reads as only-reads
-use Rattle.bits.proofs.put.Reads as put-reads
-use Rattle.house.proofs.places.write_place.Reads as write-place-reads
-use Rattle.placing.proofs.boards.board_of.Reads as board-of-reads
+use mathlib.Core.Path.{_∙_}
+use native.Mathlib.Omega.{arith}
+use Rattle.basics.proofs.CountLaws.{only-small}
+use Rattle.placing.proofs.BoardLaws.{board-read, few-ops, read-limits}
+use Rattle.placing.proofs.ReadyLaws.{none-ready}
+use Rattle.house.proofs.WriteLaws.{put-length}
+use Rattle.house.proofs.WriterSteps.{none-order, head-stops, tree-drafts}
 
--- src/writing.rt:45:9
 returns : tie.Need-returns
-returns c = ?
+returns c = head-stops _ _ _ _ (c .if1 .taken)
 
--- src/writing.rt:47:5
 put-requires : tie.Need-put-requires
 put-requires c κs = search needs
 
--- src/writing.rt:48:41
 only-requires : tie.Need-only-requires
 only-requires c κs = search needs
 
--- src/writing.rt:48:5
 put-requires-2 : tie.Need-put-requires-2
-put-requires-2 c κs = ?
+put-requires-2 c κs = (omega arith, omega (arith, c .before .before .before .before .before .before .if1 .left, c .before .before .before .before .before .before .before .before .pre .1, put-length _ _ _ _ (c .before .before .before .before .put .ensures)), rw (c .only .ensures) (omega (arith, only-small (c .before .before .before .before .before .before .before .before .args .claim .plan) 1)))
 
--- src/writing.rt:49:17
 board-of-requires : tie.Need-board-of-requires
-board-of-requires c κs = ?
+board-of-requires c κs = read-limits _ (c .before .before .before .before .before .before .before .before .before .before .before .pre .0)
 
--- src/writing.rt:54:9
 cast-write-place : tie.Need-cast-write-place
 cast-write-place c = search needs
 
--- src/writing.rt:55:9
 cast-write-place-2 : tie.Need-cast-write-place-2
 cast-write-place-2 c = search needs
 
--- src/writing.rt:53:5
 write-place-requires : tie.Need-write-place-requires
-write-place-requires c κs = ?
+write-place-requires c κs =
+    let w = c .before .before .before .before .before .before .before .before .before .before .before .before .before .before .before .before .before .before .before .before .before .before .before .before .before .before .pre in
+    let of = board-read _ (w .0) (c .before .before .before .before .before .before .before .before .before .before .before .before .before .before .board-of .ensures) in (
+      none-ready _ of 0 (omega arith),
+      none-order,
+      omega (arith, w .1, put-length _ _ _ _ (c .before .before .before .before .before .before .before .before .before .before .before .before .before .before .before .before .before .before .before .before .before .before .put .ensures), put-length _ _ _ _ (c .before .before .before .before .before .before .before .before .before .before .before .before .before .before .before .before .before .put2 .ensures)),
+      w .2,
+      omega (arith, c .before .before .before .before .before .before .before .before .before .before .before .before .before .before .before .before .before .before .before .before .before .before .before .before .if1 .left),
+      omega (arith, few-ops _ of),
+      omega arith,
+    )
 
--- src/writing.rt:40:1
 same-length : tie.Need-same-length
-same-length c = ?
+same-length c = c .before .before .write-place .ensures .size ∙ put-length _ _ _ _ (c .before .before .before .before .before .before .before .before .before .before .before .before .before .before .before .before .before .before .before .before .put2 .ensures) ∙ put-length _ _ _ _ (c .before .before .before .before .before .before .before .before .before .before .before .before .before .before .before .before .before .before .before .before .before .before .before .before .before .put .ensures)
 
--- src/writing.rt:40:1
 returns-2 : tie.Need-returns-2
-returns-2 c = ?
+returns-2 c = tree-drafts _ _ _ _ _ (c .before .before .before .before .before .before .before .before .before .before .before .before .before .before .before .before .before .board-of .ensures) (omega (arith, c .before .before .before .before .before .before .before .before .before .before .before .before .before .before .before .before .before .before .before .before .before .before .before .before .before .before .before .if1 .left)) (c .before .before .before .before .before .before .before .before .before .before .before .before .before .before .before .before .before .before .before .before .before .before .before .before .before .put .ensures) (rw (c .before .before .before .before .before .before .before .before .before .before .before .before .before .before .before .before .before .before .before .before .before .only .ensures) at (c .before .before .before .before .before .before .before .before .before .before .before .before .before .before .before .before .before .before .before .before .put2 .ensures)) (c .before .before .write-place .ensures)
 
 pub write-sheet-spec : {M : Type 1} → statement M
 write-sheet-spec =

@@ -143,7 +143,7 @@ child-element-write-insts : ChildNeed child-lts.Need-element-write-insts
 child-element-write-insts t c = child-small t (c .before .before .before .before .before .before .before .before .before .before .before) .0
 
 child-place-requires : ChildNeed child-lts.Need-place-requires
-child-place-requires t c κs = 
+child-place-requires t c κs =
     let s = c .before .before .before .before .before .before .before .before .before .before .before .before .before .before in
     let w = s .pre .1 in
     (omega (arith, s .pre .0), (next-ready (w .0) _ (omega arith) (w .0 .more) (omega arith) refl (c .before .before .before .before .before .before .before .before .before .before .lower .ensures) (c .before .before .before .before .before .cost-with .ensures), w .1, w .2, w .3))
@@ -167,7 +167,7 @@ child-element-write-lows-2 : ChildNeed child-lts.Need-element-write-lows-2
 child-element-write-lows-2 t c = child-small t (c .before .before .before .before .before .before .before .before .before .before .before .before .before .before .before) .2
 
 child-returns : ChildNeed child-lts.Need-returns
-child-returns t c = 
+child-returns t c =
     let r = c .place .ensures in
     record {
       answers = r .answers;
@@ -308,23 +308,22 @@ place-add-next-2 : PlaceNeed place-lts.Need-add-next-2
 place-add-next-2 t c = let w = c .before .before .before .before .before .before .before .before .before .before .pre .1 in omega (arith, w .1, w .2, w .3)
 
 place-first-start-requires : PlaceNeed place-lts.Need-first-start-requires
-place-first-start-requires t c κs = 
+place-first-start-requires t c κs =
     let f = op-free t (c .before .before .before) in
     let w = c .before .before .before .before .before .before .before .before .before .before .before .before .before .pre .1 .0 in
     (omega (arith, f .0, few-ops _ (w .of)), near-leads _ (w .of) _ (f .0))
 
 place-loop-holds : PlaceNeed place-lts.Need-loop-holds
-place-loop-holds t c = 
+place-loop-holds t c =
     let f = op-free t (c .before .before .before .before) in
-    let e = c .first-start .ensures in
-    (
+    let e = c .first-start .ensures in (
       rw e (first-positive _ _ _ _ _ _),
       next-inside t (c .before .before .before .before),
       record { able = c .before .before .before .before .before .before .before .before .before .before .before .before .before .before .pre .1 .0; more = f .0; free = f .1; same = refl; same-lows = refl; leads = refl },
     )
 
 place-loop2-holds : PlaceNeed place-lts.Need-loop2-holds
-place-loop2-holds t c = 
+place-loop2-holds t c =
     let v = c .before .loop .inv in
     (v .0, c .loop-test .taken, omega arith, v .1, record { able = v .2 .able; more = v .2 .more; free = v .2 .free; same = refl; same-lows = refl; leads = refl })
 
@@ -332,7 +331,7 @@ place-cast-fits : PlaceNeed place-lts.Need-cast-fits
 place-cast-fits t c = let z = place-small t (c .before .before .before .before .before .before .before .before) in omega (arith, c .before .before .before .before .before .before .before .before .before .loop2 .inv .1)
 
 place-fits-requires : PlaceNeed place-lts.Need-fits-requires
-place-fits-requires t c κs = 
+place-fits-requires t c κs =
     let o = c .before .before .before .before .before .before .before .before .before .loop2 .inv .4 in
     let z = place-small t (c .before .before .before .before .before .before .before .before) in
     (z .3, z .0, omega arith, o .able .starts-long, near-leads _ (o .able .of) _ (o .more))
@@ -344,7 +343,7 @@ place-cast-child : PlaceNeed place-lts.Need-cast-child
 place-cast-child t c = let z = place-small t (c .before .before .before .before .before .before .before .before .before .before) in omega (arith, c .before .before .before .before .before .before .before .before .before .before .before .loop2 .inv .1)
 
 place-child-requires : PlaceNeed place-lts.Need-child-requires
-place-child-requires t c κs = 
+place-child-requires t c κs =
     let o = c .before .before .before .before .before .before .before .before .before .before .before .before .before .before .loop2 .inv in
     let s = c .before .before .before .before .before .before .before .before .before .before .before .before .before .before .before .before .before .before .before .before .before .before .before .before .before .before .before .before .before .before .before in (
       omega (arith, s .pre .0, c .before .before .before .before .before .before .before .before .before .before .before .before .before .before .before .before .before .before .before .before .before .before .before .before .before .before .before .before .if1 .left),
@@ -370,7 +369,7 @@ place-enum-told : PlaceNeed place-lts.Need-enum-told
 place-enum-told t c = search needs
 
 place-returns-4 : PlaceNeed place-lts.Need-returns-4
-place-returns-4 t c = 
+place-returns-4 t c =
     let o = c .before .before .before .before .before .before .before .before .before .before .before .before .before .before .before .before .before .loop2 .inv .4 in
     let l = lives t (c .before .before .before .before .before .before .before) ∙ c .before .before .before .before .before .before .if4 .taken in
     let r = c .before .before .child .ensures in
@@ -388,7 +387,7 @@ place-loop2-less : PlaceNeed place-lts.Need-loop2-less
 place-loop2-less t c = let z = place-small t (c .before .before .before .before .before .before .before .before .before .before) in omega arith
 
 place-loop2-again : PlaceNeed place-lts.Need-loop2-again
-place-loop2-again t c = 
+place-loop2-again t c =
     let o = c .before .before .before .before .before .before .before .before .before .before .before .loop2 .inv in
     let l = c .before .before .before .before .before .before .before .before .before .before .loop2-test .taken in (
       o .0,
@@ -411,11 +410,11 @@ place-loop-less : PlaceNeed place-lts.Need-loop-less
 place-loop-less t c = omega (arith, c .before .before .loop-test .taken)
 
 place-loop-again : PlaceNeed place-lts.Need-loop-again
-place-loop-again t c = 
+place-loop-again t c =
     (omega arith, c .before .loop2 .inv .3, next-start _ _ (c .before .before .before .loop .inv .2) (c .before .before .loop-test .taken) (c .before .loop2 .inv .4) (c .loop2-test .left))
 
 place-returns-5 : PlaceNeed place-lts.Need-returns-5
-place-returns-5 t c = 
+place-returns-5 t c =
     let v = c .before .loop .inv .2 in
     record {
       answers = ap branchOf (sym (from-mark t (c .before .before) ∙ stands-end _ v (c .loop-test .left)));
