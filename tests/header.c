@@ -37,6 +37,15 @@ static void layout(void)
           "the record follows the answer");
 }
 
+static void numbers(void)
+{
+    check(TOLMUPUNG_NONE == 3 && TOLMUPUNG_CHEAPEST == 5 && TOLMUPUNG_WRITTEN == 6, "the outcomes of notes");
+    check(TOLMUPUNG_NOTE_LONG == 40 && TOLMUPUNG_VERDICT_DIFFERS == 41 && TOLMUPUNG_SPLIT_BROKEN == 42 &&
+              TOLMUPUNG_CLOSE_BROKEN == 43 && TOLMUPUNG_CHEAPER == 44,
+          "the numbers of notes");
+    check(TOLMUPUNG_PAPER_NOTE == 2 && TOLMUPUNG_NOTE_BYTES == 60000, "the paper and the length of notes");
+}
+
 /* A job whose every used cell differs from its neighbours, so that no two tables can be taken for one another. */
 static tolmupung_job some_job(void)
 {
@@ -130,19 +139,32 @@ static void judging(void)
           "NULL judged as a job");
 }
 
-/* One operation, on the last of seven instances, which costs least: nine steps and seven instances are 63 visits, and one
- * is the empty start. */
+/* Nine steps, and seven instances of two types, of which the last costs least. */
+static tolmupung_job job_of_one_operation(void)
+{
+    tolmupung_job job = some_job();
+    job.n = 1, memset(job.kinds + 1, 0, sizeof job.kinds - sizeof job.kinds[0]);
+    job.e = 0, memset(job.from, 0, sizeof job.from), memset(job.to, 0, sizeof job.to);
+    job.clock = 1023;
+    return job;
+}
+
+/* The operation on the last instance. */
+static tolmupung_plan plan_of_one_operation(void)
+{
+    tolmupung_plan plan;
+    memset(&plan, 0, sizeof plan);
+    plan.n = 1, plan.k = 7, plan.starts[0] = 1, plan.insts[0] = 6, plan.selection[6] = 1;
+    return plan;
+}
+
+/* Nine steps and seven instances are 63 visits, and one is the empty start. */
 static void searching(void)
 {
     uint8_t sheet[TOLMUPUNG_JOB_BYTES], planned[TOLMUPUNG_PLAN_BYTES], out[TOLMUPUNG_PLAN_BYTES];
-    tolmupung_job job = some_job();
-    tolmupung_plan plan;
-    tolmupung_answer a, b;
-    job.n = 1, memset(job.kinds + 1, 0, sizeof job.kinds - sizeof job.kinds[0]);
-    job.e = 0, memset(job.from, 0, sizeof job.from), memset(job.to, 0, sizeof job.to);
-    job.clock = 1023, a = tolmupung_write_job(job, sheet, sizeof sheet);
-    memset(&plan, 0, sizeof plan);
-    plan.n = 1, plan.k = 7, plan.starts[0] = 1, plan.insts[0] = 6, plan.selection[6] = 1;
+    tolmupung_job job = job_of_one_operation();
+    tolmupung_plan plan = plan_of_one_operation();
+    tolmupung_answer a = tolmupung_write_job(job, sheet, sizeof sheet), b;
     memset(planned, 0xa5, sizeof planned), memset(out, 0xa5, sizeof out);
     check(is(tolmupung_search(sheet, a.length, 63, out, sizeof out), TOLMUPUNG_SPENT, TOLMUPUNG_BUDGET_SPENT,
              TOLMUPUNG_PAPER_REQUEST, 0, 63, 0),
@@ -168,6 +190,87 @@ static void searching(void)
           "without steps no plan meets the rules");
 }
 
+static int refuses(tolmupung_answer a, uint32_t number, uint32_t paper)
+{
+    return answers(a, TOLMUPUNG_REFUSED, number, paper, 0);
+}
+
+/* The sheets of the job of one operation and of its plan. */
+static uint8_t job[TOLMUPUNG_JOB_BYTES], plan[TOLMUPUNG_PLAN_BYTES];
+static size_t job_len, plan_len;
+
+/* The house note is one split, on operation 0: none of its 63 options costs less than the plan. Without steps there is no
+ * plan, and the split has no options. */
+static const uint8_t note_of_plan[2] = {0x3c, 0x00}, note_of_none[2] = {0x34, 0x00};
+
+static void lend(uint16_t steps)
+{
+    tolmupung_job record = job_of_one_operation();
+    record.t = steps;
+    job_len = tolmupung_write_job(record, job, sizeof job).length;
+    plan_len = tolmupung_write_plan(plan_of_one_operation(), plan, sizeof plan).length;
+}
+
+static void writing_notes(void)
+{
+    static const uint8_t before[4] = {9, 9, 9, 9}, after[4] = {0x3c, 0x00, 9, 9};
+    uint8_t out[4] = {9, 9, 9, 9};
+    lend(9);
+    check(refuses(tolmupung_write_note(NULL, 9, plan, plan_len, out, sizeof out), TOLMUPUNG_BITS_RUN_OUT,
+                  TOLMUPUNG_PAPER_JOB),
+          "a note written beside NULL as a job");
+    check(refuses(tolmupung_write_note(job, job_len, NULL, 9, out, sizeof out), TOLMUPUNG_CHEAPER,
+                  TOLMUPUNG_PAPER_NOTE),
+          "a note for NULL as a plan, where there is one");
+    check(refuses(tolmupung_write_note(job, job_len, plan, plan_len, NULL, 9), TOLMUPUNG_OUTPUT_SHORT,
+                  TOLMUPUNG_PAPER_REQUEST),
+          "a note written to NULL");
+    check(refuses(tolmupung_write_note(job, job_len, plan, plan_len, out, 1), TOLMUPUNG_OUTPUT_SHORT,
+                  TOLMUPUNG_PAPER_REQUEST),
+          "an output of one byte is too short for the note");
+    check(memcmp(out, before, sizeof out) == 0, "without a note the output stays");
+    check(answers(tolmupung_write_note(job, job_len, plan, plan_len, out, sizeof out), TOLMUPUNG_WRITTEN, 0, 0, 2),
+          "a note is written");
+    check(memcmp(out, after, sizeof out) == 0, "the note begins the output, and the rest stays");
+    lend(0);
+    check(answers(tolmupung_write_note(job, job_len, NULL, 9, out, sizeof out), TOLMUPUNG_WRITTEN, 0, 0, 2) &&
+              memcmp(out, note_of_none, 2) == 0,
+          "a note for none is written");
+}
+
+/* Beside the job and the plan. */
+static void check_refused(const uint8_t *note, size_t note_len, uint32_t number, const char *what)
+{
+    tolmupung_answer a = tolmupung_check_note(job, job_len, plan, plan_len, note, note_len);
+    check(refuses(a, number, TOLMUPUNG_PAPER_NOTE), what);
+}
+
+static void checking_notes(void)
+{
+    static uint8_t long_note[TOLMUPUNG_NOTE_BYTES + 1] = {0x3c};
+    static const uint8_t close[1] = {0x38}, split_on_1[2] = {0x3c, 0x20};
+    lend(9);
+    check(is(tolmupung_check_note(job, job_len, plan, plan_len, note_of_plan, 2), TOLMUPUNG_CHEAPEST, 0, 0, 65534, 0, 0),
+          "the plan is cheapest");
+    check(refuses(tolmupung_check_note(NULL, 9, plan, plan_len, note_of_plan, 2), TOLMUPUNG_BITS_RUN_OUT,
+                  TOLMUPUNG_PAPER_JOB),
+          "a note checked beside NULL as a job");
+    check(refuses(tolmupung_check_note(job, job_len, NULL, 9, note_of_plan, 2), TOLMUPUNG_VERDICT_DIFFERS,
+                  TOLMUPUNG_PAPER_NOTE),
+          "a note checked beside NULL as a plan");
+    check(refuses(tolmupung_check_note(job, job_len, NULL, 9, note_of_none, 2), TOLMUPUNG_CHEAPER, TOLMUPUNG_PAPER_NOTE),
+          "a note for none, where there is a plan");
+    check_refused(NULL, 9, TOLMUPUNG_BITS_RUN_OUT, "NULL checked as a note");
+    check_refused(job, job_len, TOLMUPUNG_FORM_DIFFERS, "a job's sheet is no note");
+    check_refused(close, 1, TOLMUPUNG_CLOSE_BROKEN, "nothing is placed, and nothing can be closed");
+    check_refused(split_on_1, 2, TOLMUPUNG_SPLIT_BROKEN, "there is no operation 1");
+    check_refused(long_note, sizeof long_note, TOLMUPUNG_NOTE_LONG, "a note of 60,001 bytes");
+    check_refused(long_note, sizeof long_note - 1, TOLMUPUNG_FILL_BROKEN, "of 60,000 bytes all but two follow the note");
+    lend(0);
+    check(answers(tolmupung_check_note(job, job_len, NULL, 9, note_of_none, 2), TOLMUPUNG_NONE, 0, 0, 0),
+          "without steps there is no plan");
+}
+
 static void nothing(void)
 {
     size_t length;
@@ -190,10 +293,13 @@ static void nothing(void)
 int main(void)
 {
     layout();
+    numbers();
     jobs();
     plans();
     judging();
     searching();
+    writing_notes();
+    checking_notes();
     nothing();
     return failed;
 }

@@ -1,6 +1,7 @@
-//! Benchmarks: the library beside the second program and beside a walk in C, on the same jobs in one run.
+//! Benchmarks: the library beside the second program, and beside a walk and notes in C, on the same jobs in one run.
 
 mod judge;
+mod note;
 mod report;
 mod search;
 mod timing;
@@ -23,7 +24,7 @@ struct Benchmark {
     lines: fn() -> Vec<(String, Speeds)>,
 }
 
-const BENCHMARKS: [Benchmark; 2] = [
+const BENCHMARKS: [Benchmark; 3] = [
     Benchmark {
         word: "judge",
         what: "answers",
@@ -37,6 +38,13 @@ const BENCHMARKS: [Benchmark; 2] = [
         peer: "C",
         least_ratio: 0.5,
         lines: search::run,
+    },
+    Benchmark {
+        word: "note",
+        what: "marks",
+        peer: "C",
+        least_ratio: 0.5,
+        lines: note::run,
     },
 ];
 

@@ -62,7 +62,7 @@ pub fn by_library(job: &[u8], budget: u32) -> (Answer, Vec<u8>) {
 }
 
 /// The same from the walk in C, which writes no sheet.
-fn by_c(job: &JobRecord, budget: u32) -> (Answer, Vec<u8>) {
+pub fn by_c(job: &JobRecord, budget: u32) -> (Answer, Vec<u8>) {
     let Reading { answer, record } = unsafe { walk_in_c(job, budget) };
     if answer.has_number() {
         return (answer, vec![]);

@@ -55,6 +55,11 @@ impl BitWriter {
         BitWriter { bits: Vec::new() }
     }
 
+    /// How many bits have been put.
+    pub fn length(&self) -> usize {
+        self.bits.len()
+    }
+
     pub fn put(&mut self, value: u16, width: usize) {
         assert!(
             u32::from(value) < 1 << width,

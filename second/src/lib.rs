@@ -1,5 +1,5 @@
-//! The second program of Tolmupung: it reads, writes and judges the office's sheets and searches for the cheapest plan by
-//! the written rules alone, and compares the library with itself.
+//! The second program of Tolmupung: it reads, writes and judges the office's sheets, searches for the cheapest plan, and
+//! checks and writes closing notes by the written rules alone, and compares the library with itself.
 
 mod bits;
 pub mod compare;
@@ -9,6 +9,7 @@ pub mod hex;
 mod job;
 pub mod judge;
 pub mod library;
+pub mod note;
 pub mod plan;
 pub mod planned;
 pub mod random;

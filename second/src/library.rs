@@ -1,6 +1,7 @@
 //! The library under test, called as the C header declares it.
 
 use crate::job::Job;
+use crate::note::check::Proved;
 use crate::plan::Plan;
 use crate::record::{JobRecord, PlanRecord, Record};
 use crate::refusal::{Paper, Refusal};
@@ -13,6 +14,7 @@ const PASSED: u32 = 1;
 const FOUND: u32 = 2;
 const NONE: u32 = 3;
 const SPENT: u32 = 4;
+const CHEAPEST: u32 = 5;
 const WRITTEN: u32 = 6;
 const READ: u32 = 7;
 
@@ -103,6 +105,22 @@ impl Answer {
         }
     }
 
+    /// What the check of a note ought to give.
+    pub fn checked(checked: Result<Proved, Refusal>) -> Answer {
+        match checked {
+            Ok(Proved::Cheapest { cost }) => Answer {
+                outcome: CHEAPEST,
+                cost,
+                ..Answer::NOTHING
+            },
+            Ok(Proved::None) => Answer {
+                outcome: NONE,
+                ..Answer::NOTHING
+            },
+            Err(refusal) => Answer::refused(refusal),
+        }
+    }
+
     pub fn refused(refusal: Refusal) -> Answer {
         Answer {
             outcome: REFUSED,
@@ -115,6 +133,11 @@ impl Answer {
     /// What was asked for was not given, and a number and a paper say why.
     pub fn has_number(&self) -> bool {
         self.number != 0
+    }
+
+    /// There is no plan: the search's outcome, or what a note proves.
+    pub fn is_none(&self) -> bool {
+        self.outcome == NONE
     }
 }
 
@@ -147,6 +170,22 @@ extern "C" {
         out: *mut u8,
         out_len: usize,
     ) -> Answer;
+    fn tolmupung_check_note(
+        job: *const u8,
+        job_len: usize,
+        plan: *const u8,
+        plan_len: usize,
+        note: *const u8,
+        note_len: usize,
+    ) -> Answer;
+    fn tolmupung_write_note(
+        job: *const u8,
+        job_len: usize,
+        plan: *const u8,
+        plan_len: usize,
+        out: *mut u8,
+        out_len: usize,
+    ) -> Answer;
 }
 
 #[derive(Clone, Copy, Debug, PartialEq, Eq, PartialOrd, Ord)]
@@ -157,19 +196,29 @@ pub enum Entry {
     WritePlan,
     Judge,
     Search,
+    CheckNote,
+    WriteNote,
 }
 
 /// A paper, and the numbers that an entry can give with it.
 type Refusals = (Paper, &'static [u32]);
 
+const JOB_READ: Refusals = (Paper::Job, &[1, 2, 3, 4, 5, 6]);
+const PLAN_JUDGED: Refusals = (
+    Paper::Plan,
+    &[1, 2, 3, 6, 10, 11, 12, 13, 14, 15, 16, 17, 18],
+);
+
 impl Entry {
-    pub const ALL: [Entry; 6] = [
+    pub const ALL: [Entry; 8] = [
         Entry::ReadJob,
         Entry::WriteJob,
         Entry::ReadPlan,
         Entry::WritePlan,
         Entry::Judge,
         Entry::Search,
+        Entry::CheckNote,
+        Entry::WriteNote,
     ];
 
     pub fn name(self) -> &'static str {
@@ -180,26 +229,33 @@ impl Entry {
             Entry::WritePlan => "plan writer",
             Entry::Judge => "judge",
             Entry::Search => "search",
+            Entry::CheckNote => "note check",
+            Entry::WriteNote => "note writer",
         }
     }
 
     /// The refusals that the entry can give, and for the search its outcomes spent and none, by their numbers.
     pub fn refusals(self) -> &'static [Refusals] {
         match self {
-            Entry::ReadJob => &[(Paper::Job, &[1, 2, 3, 4, 5, 6])],
+            Entry::ReadJob => &[JOB_READ],
             Entry::WriteJob => &[(Paper::Job, &[3, 4, 5, 7]), (Paper::Request, &[22])],
             Entry::ReadPlan => &[(Paper::Plan, &[1, 2, 3, 6])],
             Entry::WritePlan => &[(Paper::Plan, &[3, 7]), (Paper::Request, &[22])],
-            Entry::Judge => &[
-                (Paper::Job, &[1, 2, 3, 4, 5, 6]),
-                (
-                    Paper::Plan,
-                    &[1, 2, 3, 6, 10, 11, 12, 13, 14, 15, 16, 17, 18],
-                ),
-            ],
+            Entry::Judge => &[JOB_READ, PLAN_JUDGED],
             Entry::Search => &[
                 (Paper::Job, &[1, 2, 3, 4, 5, 6, 31]),
                 (Paper::Request, &[22, 30]),
+            ],
+            Entry::CheckNote => &[
+                JOB_READ,
+                PLAN_JUDGED,
+                (Paper::Note, &[1, 2, 6, 40, 41, 42, 43, 44]),
+            ],
+            Entry::WriteNote => &[
+                JOB_READ,
+                PLAN_JUDGED,
+                (Paper::Note, &[44]),
+                (Paper::Request, &[22]),
             ],
         }
     }
@@ -248,4 +304,18 @@ pub fn judge_by_library(job: &[u8], plan: &[u8]) -> Answer {
 /// The entry that searches for a job's cheapest plan.
 pub fn search_by_library(job: &[u8], budget: u32, out: &mut [u8]) -> Answer {
     unsafe { tolmupung_search(job.as_ptr(), job.len(), budget, out.as_mut_ptr(), out.len()) }
+}
+
+/// The entry that checks a closing note. A plan of no bytes is none.
+pub fn check_note_by_library(job: &[u8], plan: &[u8], note: &[u8]) -> Answer {
+    let papers = [job, plan, note].map(|paper| (paper.as_ptr(), paper.len()));
+    let [(job, job_len), (plan, plan_len), (note, note_len)] = papers;
+    unsafe { tolmupung_check_note(job, job_len, plan, plan_len, note, note_len) }
+}
+
+/// The entry that writes the house note.
+pub fn write_note_by_library(job: &[u8], plan: &[u8], out: &mut [u8]) -> Answer {
+    let papers = [job, plan].map(|paper| (paper.as_ptr(), paper.len()));
+    let [(job, job_len), (plan, plan_len)] = papers;
+    unsafe { tolmupung_write_note(job, job_len, plan, plan_len, out.as_mut_ptr(), out.len()) }
 }

@@ -1,5 +1,8 @@
 //! The second program's command line.
 
+use second::note::check::check_and_tell;
+use second::note::write::write;
+use second::note::{Tree, NOTE_BYTES};
 use second::random::Random;
 use second::search::{search, Searched};
 use second::sheet::Form;
@@ -20,12 +23,16 @@ usage:
   second search JOBHEX [BUDGET]   this program's own search, without BUDGET as long as it takes
   second show job HEX             a job sheet, field by field
   second show plan HEX            a plan sheet, field by field
+  second show note JOBHEX PLANHEX NOTEHEX
+                                  a note as a tree, mark by mark as far as it is sound, and what it proves
   second make job P               the sheet of job P, in hex
   second make job diffeq STEPS    the sheet of the report's differential equation, 3 to 7 steps
   second make job SEED            the sheet of a random job
   second make plan 1              the sheet of the plan of case 1
   second make plan SEED           the sheet of a random plan (SEED other than 1)
-numbers are decimal; HEX may have spaces between its digits (judge, search: within quotes)
+  second make note JOBHEX PLANHEX the house note
+numbers are decimal; HEX may have spaces between its digits (within quotes where more than one sheet may be named);
+beside a note, PLANHEX '' is no plan
 ";
 
 fn main() -> ExitCode {
@@ -41,11 +48,13 @@ fn main() -> ExitCode {
         ["search", job, budget] => search_sheet(job, budget.parse()),
         ["show", "job", digits @ ..] if !digits.is_empty() => show_sheet(digits, show::job),
         ["show", "plan", digits @ ..] if !digits.is_empty() => show_sheet(digits, show::plan),
+        ["show", "note", job, plan, note] => show_note(job, plan, note),
         ["make", "job", "P"] => make_sheet(&samples::job_p()),
         ["make", "job", "diffeq", steps] => make_diffeq_sheet(steps),
         ["make", "job", seed] => make_random_sheet(seed, samples::random_job),
         ["make", "plan", "1"] => make_sheet(&samples::plan_of_case_1()),
         ["make", "plan", seed] => make_random_sheet(seed, samples::random_plan),
+        ["make", "note", job, plan] => make_note(job, plan),
         _ => usage(),
     }
 }
@@ -73,11 +82,7 @@ fn judge_sheets(job: &str, plan: &str) -> ExitCode {
         return usage();
     };
     let verdict = judge::judge(&job, &plan);
-    let status = match verdict {
-        Ok(_) => ExitCode::SUCCESS,
-        Err(_) => ExitCode::FAILURE,
-    };
-    print(&show::verdict(&verdict), status)
+    print(&show::verdict(&verdict), status_of(&verdict))
 }
 
 /// With room for every plan.
@@ -100,6 +105,35 @@ fn show_sheet<F: Form>(digits: &[&str], text: fn(&F) -> String) -> ExitCode {
     match F::read(&sheet) {
         Ok(held) => print(&text(&held), ExitCode::SUCCESS),
         Err(refusal) => print(&show::refusal(&refusal), ExitCode::FAILURE),
+    }
+}
+
+fn show_note(job: &str, plan: &str, note: &str) -> ExitCode {
+    let [Some(job), Some(plan), Some(note)] = [job, plan, note].map(hex::bytes_of) else {
+        return usage();
+    };
+    let mut text = String::new();
+    let mut tell = |tree: &Tree, mark| text += &show::place(tree, mark);
+    let checked = check_and_tell(&job, &plan, &note, &mut tell);
+    print(&(text + &show::checked(&checked)), status_of(&checked))
+}
+
+fn make_note(job: &str, plan: &str) -> ExitCode {
+    let [Some(job), Some(plan)] = [job, plan].map(hex::bytes_of) else {
+        return usage();
+    };
+    let written = write(&job, &plan, NOTE_BYTES);
+    let text = match &written {
+        Ok(note) => hex::digits_of(note) + "\n",
+        Err(refusal) => show::refusal(refusal),
+    };
+    print(&text, status_of(&written))
+}
+
+fn status_of<Answer, Refusal>(answer: &Result<Answer, Refusal>) -> ExitCode {
+    match answer {
+        Ok(_) => ExitCode::SUCCESS,
+        Err(_) => ExitCode::FAILURE,
     }
 }
 

@@ -84,6 +84,12 @@ impl Planned {
     }
 }
 
+/// Any plan that passes, None where the operations placed so far leave no room for the next.
+pub fn any_plan(random: &mut Random, job: &Job) -> Option<Plan> {
+    let places = all_placed(job, random)?;
+    Some(plan_of_places(job, &places, random))
+}
+
 /// Times are multiples of the unit, and so is the clock.
 #[derive(Clone, Copy)]
 struct Grain {
@@ -202,14 +208,7 @@ fn first_live(
 
 /// The plan's selection keeps selection order, and may hold more instances than the rows need.
 fn plan_of_places(job: &Job, places: &[Option<Place>], random: &mut Random) -> Plan {
-    let rows: Vec<Row> = places
-        .iter()
-        .flatten()
-        .map(|place| Row {
-            start: place.start,
-            instance: place.instance,
-        })
-        .collect();
+    let rows: Vec<Row> = places.iter().flatten().map(Place::row).collect();
     let any_up_to_the_used = |first, first_used| random.often_extreme(first, first_used);
     let selection = selection_from(job, &rows, any_up_to_the_used);
     Plan { selection, rows }

@@ -21,12 +21,18 @@ pub enum Fault {
     OutputTooShort = 22,
     BudgetSpent = 30,
     NoPlan = 31,
+    NoteLong = 40,
+    VerdictDiffers = 41,
+    SplitBroken = 42,
+    CloseBroken = 43,
+    Cheaper = 44,
 }
 
 #[derive(Clone, Copy, Debug, PartialEq, Eq)]
 pub enum Paper {
     Job = 0,
     Plan = 1,
+    Note = 2,
     Request = 4,
 }
 
@@ -51,6 +57,11 @@ impl Refusal {
         fault: Fault::NoPlan,
         paper: Paper::Job,
     };
+
+    pub fn of_note(fault: Fault) -> Refusal {
+        let paper = Paper::Note;
+        Refusal { fault, paper }
+    }
 
     pub fn number(&self) -> u32 {
         self.fault as u32
@@ -88,6 +99,13 @@ impl Refusal {
             Fault::OutputTooShort => "output too short",
             Fault::BudgetSpent => "visits exceed the budget",
             Fault::NoPlan => "no plan meets the rules",
+            Fault::NoteLong => "note over 60,000 bytes",
+            Fault::VerdictDiffers => "verdict 1 without a plan, or 0 with one",
+            Fault::SplitBroken => {
+                "split on a number not below N, or on an operation already placed"
+            }
+            Fault::CloseBroken => "bit 0 not allowed: the cost is below the claim, or verdict 0",
+            Fault::Cheaper => "all placed and cheaper than the claim, or verdict 0",
         }
     }
 }

@@ -33,6 +33,13 @@ impl Place {
         })
     }
 
+    pub fn row(&self) -> Row {
+        Row {
+            start: self.start,
+            instance: self.instance,
+        }
+    }
+
     /// The last step of the operation.
     pub fn finish(&self) -> u16 {
         self.start + self.delay - 1

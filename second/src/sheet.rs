@@ -5,7 +5,7 @@ use crate::record::Record;
 use crate::refusal::{Fault, Paper, Refusal};
 use std::fmt;
 
-const FORM_BITS: usize = 4;
+pub const FORM_BITS: usize = 4;
 
 /// What the sheets of one form hold: a job or a plan.
 pub trait Form: Sized {

@@ -1,6 +1,8 @@
 //! Sheets laid out for a person.
 
 use crate::job::{Ability, Job, UnitType};
+use crate::note::check::Proved;
+use crate::note::{Mark, Tree};
 use crate::plan::{Plan, Row};
 use crate::record::KINDS;
 use crate::refusal::Refusal;
@@ -38,6 +40,32 @@ pub fn searched(searched: &Searched) -> String {
         Searched::Spent { budget } => numbered("spent", &Refusal::BUDGET_SPENT, &after(budget)),
         Searched::Refused(refusal) => numbered("refused", refusal, ""),
     }
+}
+
+/// What a note proves.
+pub fn checked(checked: &Result<Proved, Refusal>) -> String {
+    match checked {
+        Ok(Proved::Cheapest { cost }) => format!("cheapest, cost {cost}\n"),
+        Ok(Proved::None) => "none: no plan meets the rules\n".to_string(),
+        Err(refusal) => numbered("refused", refusal, ""),
+    }
+}
+
+/// A place of a note's tree, as far to the right as operations are placed there: the row that leads to it, what all rows
+/// cost, and its mark.
+pub fn place(tree: &Tree, mark: Option<Mark>) -> String {
+    let indent = "  ".repeat(tree.depth());
+    let row = tree
+        .last()
+        .map_or("nothing placed".to_string(), |(operation, place)| {
+            format!("{operation} at {} on {}", place.start, place.instance)
+        });
+    let mark = match mark {
+        Some(Mark::Close) => "close".to_string(),
+        Some(Mark::Split(operation)) => format!("split on {operation}"),
+        None => "all placed".to_string(),
+    };
+    format!("{indent}{row}, cost {}: {mark}\n", tree.cost())
 }
 
 /// An outcome by its number and paper, and what the number means.
@@ -263,6 +291,8 @@ fn operations_at(plan: &Plan, instance: u16, step: u16) -> String {
 #[cfg(test)]
 mod tests {
     use super::*;
+    use crate::note::check::check_and_tell;
+    use crate::note::write::write;
     use crate::samples::{empty_job, empty_plan, full_job, full_plan, job_p, plan_of_case_1};
     use crate::search::walk;
 
@@ -343,6 +373,27 @@ mod tests {
         assert_eq!(searched(&walk(&job_p(), 13)), spent);
         let none = "none by 31, paper 0, visits 5\n31 means: no plan meets the rules.\n";
         assert_eq!(searched(&Searched::None { visits: 5 }), none);
+    }
+
+    #[test]
+    fn the_tree_of_a_note_for_none() {
+        let job = Job {
+            deadline: 2,
+            ..job_p()
+        };
+        let note = write(&job.sheet(), &[], 5).expect("a note");
+        let mut text = String::new();
+        let mut tell = |tree: &Tree, mark| text += &place(tree, mark);
+        let proved = check_and_tell(&job.sheet(), &[], &note, &mut tell);
+        let lines = [
+            "nothing placed, cost 0: split on 0",
+            "  0 at 1 on 2, cost 30: split on 1",
+            "    1 at 2 on 2, cost 30: split on 2",
+            "  0 at 2 on 2, cost 30: split on 1",
+            "    1 at 1 on 2, cost 30: split on 2",
+        ];
+        assert_eq!(text, lines.join("\n") + "\n");
+        assert_eq!(checked(&proved), "none: no plan meets the rules\n");
     }
 
     #[test]

@@ -5,7 +5,13 @@ use crate::every_plan::cheapest;
 use crate::hex;
 use crate::job::Job;
 use crate::judge::judge;
-use crate::library::{judge_by_library, search_by_library, Answer, Entries, Entry, Reading};
+use crate::library::{
+    check_note_by_library, judge_by_library, search_by_library, write_note_by_library, Answer,
+    Entries, Entry, Reading,
+};
+use crate::note::check::check;
+use crate::note::write::write;
+use crate::refusal::Refusal;
 use crate::search::{search, walk, Searched};
 use crate::sheet::Form;
 use std::fmt::{self, Debug};
@@ -78,10 +84,7 @@ impl Comparison {
 
     pub fn write<F: Entries>(&mut self, record: &F::Record, room: usize) -> Checked {
         let before = self.untouched_output(room);
-        let own = match F::write(record, room) {
-            Ok(sheet) => own_write(Answer::written(sheet.len()), &sheet, &before),
-            Err(refusal) => own_write(Answer::refused(refusal), &[], &before),
-        };
+        let own = own_writing(F::write(record, room), &before);
         self.tally.count(F::WRITER, &own.answer);
         let library = library_write(&before, |out| F::write_by_library(record, out));
         let input = || format!("{record:?}\ninto {room} bytes");
@@ -91,7 +94,7 @@ impl Comparison {
     pub fn judge(&mut self, job: &[u8], plan: &[u8]) -> Checked {
         let own = Answer::judged(judge(job, plan));
         self.tally.count(Entry::Judge, &own);
-        let input = || format!("job, {}\nplan, {}", sheet_text(job), sheet_text(plan));
+        let input = || papers_text(job, plan);
         let library = judge_by_library(job, plan);
         agree(Entry::Judge, LIBRARY, input, [&own, &library])
     }
@@ -119,6 +122,38 @@ impl Comparison {
         self.tally.walks_confirmed += 1;
         let input = || sheet_text(&job.sheet());
         agree(Entry::Search, WALK, input, [&cheapest(job), &of_the_walk])
+    }
+
+    pub fn check_note(&mut self, job: &[u8], plan: &[u8], note: &[u8]) -> Checked {
+        let own = Answer::checked(check(job, plan, note));
+        self.tally.count(Entry::CheckNote, &own);
+        let input = || format!("{}\nnote, {}", papers_text(job, plan), sheet_text(note));
+        let library = check_note_by_library(job, plan, note);
+        agree(Entry::CheckNote, LIBRARY, input, [&own, &library])
+    }
+
+    pub fn write_note(&mut self, job: &[u8], plan: &[u8], room: usize) -> Checked {
+        let before = self.untouched_output(room);
+        let own = own_writing(write(job, plan, room), &before);
+        self.tally.count(Entry::WriteNote, &own.answer);
+        let library = library_write(&before, |out| write_note_by_library(job, plan, out));
+        let input = || format!("{}\ninto {room} bytes", papers_text(job, plan));
+        agree(Entry::WriteNote, LIBRARY, input, [&own, &library])
+    }
+
+    /// What all plans judged say of a claim, beside what this program's note says. The library is not asked.
+    pub fn confirm_note(
+        &mut self,
+        job: &Job,
+        claim: Option<u32>,
+        cheapest: Option<u32>,
+        accepted: bool,
+    ) -> Checked {
+        const NOTE: Pair = ["judge of every plan", "note"];
+        self.tally.notes_confirmed += 1;
+        let input = || format!("job, {}\nclaim {claim:?}", sheet_text(&job.sheet()));
+        let of_all_plans = claim == cheapest;
+        agree(Entry::CheckNote, NOTE, input, [&of_all_plans, &accepted])
     }
 
     /// A sound job or plan: its sheet read, its record written, and there and back by the library alone.
@@ -149,6 +184,10 @@ impl Comparison {
 
 fn sheet_text(sheet: &[u8]) -> String {
     format!("{} bytes: {}", sheet.len(), hex::digits_of(sheet))
+}
+
+fn papers_text(job: &[u8], plan: &[u8]) -> String {
+    format!("job, {}\nplan, {}", sheet_text(job), sheet_text(plan))
 }
 
 /// What an entry that writes leaves: its answer, and the whole output with its margins before and after the call.
@@ -185,6 +224,14 @@ fn own_write(answer: Answer, sheet: &[u8], before: &[u8]) -> Written {
     }
 }
 
+/// The same of a sheet or a refusal.
+fn own_writing(written: Result<Vec<u8>, Refusal>, before: &[u8]) -> Written {
+    match written {
+        Ok(sheet) => own_write(Answer::written(sheet.len()), &sheet, before),
+        Err(refusal) => own_write(Answer::refused(refusal), &[], before),
+    }
+}
+
 fn library_write(before: &[u8], entry: impl Fn(&mut [u8]) -> Answer) -> Written {
     let mut after = before.to_vec();
     let end = after.len() - MARGIN;
@@ -199,7 +246,6 @@ fn library_write(before: &[u8], entry: impl Fn(&mut [u8]) -> Answer) -> Written 
 #[cfg(test)]
 mod tests {
     use super::*;
-    use crate::refusal::Refusal;
 
     #[test]
     fn untouched_outputs_hold_no_zero_and_change() {

@@ -3,7 +3,6 @@
 use super::changes::{other_counts, other_rows, other_selections, several_changes};
 use super::entries::{Checked, Comparison};
 use super::for_all;
-use crate::job::Job;
 use crate::judge::broken_rules;
 use crate::plan::Plan;
 use crate::planned::{pairs, Planned};
@@ -21,15 +20,11 @@ pub fn passing(comparison: &mut Comparison, random: &mut Random, count: usize) -
 
 /// For each passing plan and each rule, some plans that break this rule and no other, as far as one change goes.
 pub fn one_rule_broken(comparison: &mut Comparison, random: &mut Random, count: usize) -> Checked {
-    for Planned { job, plan } in pairs(random, 20 + 2 * count) {
-        let mut changed = [other_counts(&plan), other_selections(&plan)].concat();
-        for _ in 0..plan.rows.len().min(3) {
-            changed.extend(other_rows(&plan, random.below(plan.rows.len())));
-        }
-        for (number, broken) in by_the_one_rule_broken(&job, changed) {
+    for pair in pairs(random, 20 + 2 * count) {
+        for (number, broken) in by_the_one_rule_broken(random, &pair) {
             for _ in 0..4 {
                 let plan = random.pick(&broken);
-                comparison.judge(&job.sheet(), &plan.sheet())?;
+                comparison.judge(&pair.job.sheet(), &plan.sheet())?;
                 comparison.tally.count_alone(number);
             }
         }
@@ -37,10 +32,17 @@ pub fn one_rule_broken(comparison: &mut Comparison, random: &mut Random, count: 
     Ok(())
 }
 
-/// The plans that break one rule and no other, by its number.
-fn by_the_one_rule_broken(job: &Job, plans: Vec<Plan>) -> BTreeMap<u32, Vec<Plan>> {
+/// Plans that differ from the pair's by one change, and break one rule and no other, by its number.
+pub fn by_the_one_rule_broken(
+    random: &mut Random,
+    Planned { job, plan }: &Planned,
+) -> BTreeMap<u32, Vec<Plan>> {
+    let mut changed = [other_counts(plan), other_selections(plan)].concat();
+    for _ in 0..plan.rows.len().min(3) {
+        changed.extend(other_rows(plan, random.below(plan.rows.len())));
+    }
     let mut by_number: BTreeMap<u32, Vec<Plan>> = BTreeMap::new();
-    for plan in plans {
+    for plan in changed {
         if let [fault] = broken_rules(job, &plan)[..] {
             by_number.entry(fault as u32).or_default().push(plan);
         }

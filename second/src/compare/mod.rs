@@ -7,6 +7,9 @@ mod faults;
 mod job_papers;
 mod judging;
 mod mixes;
+mod note_papers;
+mod noted;
+mod noting;
 mod papers;
 mod records;
 mod searching;
@@ -20,7 +23,7 @@ use std::time::Instant;
 
 type Phase = fn(&mut Comparison, &mut Random, usize) -> Checked;
 
-const PHASES: [(&str, Phase); 31] = [
+const PHASES: [(&str, Phase); 44] = [
     ("sheets of every size", sheets::every_size),
     ("sound sheets and records", sheets::sound),
     ("every number in every header field", sheets::every_header),
@@ -64,6 +67,25 @@ const PHASES: [(&str, Phase); 31] = [
     ("jobs at their limits searched", searching::limits),
     ("damaged jobs searched", job_papers::damaged),
     ("jobs of random bytes searched", job_papers::random_bytes),
+    ("notes of known jobs", noting::known),
+    ("house notes", noting::house_notes),
+    (
+        "outputs of every length, house notes",
+        noting::every_room_of_house_notes,
+    ),
+    (
+        "notes split in any order, and needlessly",
+        noting::other_notes,
+    ),
+    ("plans that are not cheapest", noting::not_cheapest),
+    ("notes beside every plan judged", noting::confirmed),
+    ("notes beside other papers", note_papers::mixed_up),
+    ("damaged notes", note_papers::damaged),
+    ("notes of random bytes", note_papers::random_bytes),
+    ("jobs and plans damaged beside notes", note_papers::beside),
+    ("notes around 60,000 bytes", noting::long_notes),
+    ("large jobs noted", noting::large_jobs),
+    ("notes at full depth", noting::deep_notes),
 ];
 
 /// Tries each of the samples, up to the first disagreement.
@@ -97,10 +119,11 @@ fn report(comparison: &Comparison, seed: u64, count: usize) -> ExitCode {
     let tally = &comparison.tally;
     println!("seed {seed}, count {count}: no disagreement");
     println!(
-        "{} comparisons, {} round trips, {} walks confirmed by judging every plan",
+        "{} comparisons, {} round trips, {} walks and {} notes confirmed by judging every plan",
         tally.total(),
         tally.round_trips,
-        tally.walks_confirmed
+        tally.walks_confirmed,
+        tally.notes_confirmed
     );
     println!("\nrefusals met, by paper and number, with the search's 30 (spent) and 31 (none);");
     println!("alone, plans that break no other rule:");

@@ -21,7 +21,7 @@ use crate::small::{small_job, small_job_where};
 const ROOMY: usize = 40;
 
 /// This program takes its time over longer walks; they are tried with no greater budget.
-const LONG: u32 = 3000;
+pub const LONG: u32 = 3000;
 
 /// Judging more plans of one job takes too long.
 const MOST_PLANS: u64 = 200_000;
@@ -47,7 +47,7 @@ pub fn known(comparison: &mut Comparison, _random: &mut Random, _count: usize) -
     report(comparison)
 }
 
-fn known_jobs() -> Vec<Job> {
+pub fn known_jobs() -> Vec<Job> {
     let in_two_steps = |multiplier, wire| {
         let mut job = job_p();
         (job.deadline, job.wire) = (2, wire);
@@ -250,7 +250,7 @@ pub fn limits(comparison: &mut Comparison, random: &mut Random, count: usize) ->
     })
 }
 
-fn jobs_at_their_limits() -> Vec<Job> {
+pub fn jobs_at_their_limits() -> Vec<Job> {
     let all_of_one_kind = |n, cost| Job {
         kinds: vec![0; n],
         types: [7, 7, 2]

@@ -7,20 +7,24 @@ use std::ops::RangeInclusive;
 /// The numbers of judging. Each must be met often among all plans, and as the one rule broken.
 const JUDGING: RangeInclusive<u32> = 10..=18;
 
-/// How often a number of judging and every answer of the search must be met at least.
+/// How often a number of judging and every answer of these entries must be met at least.
 const OFTEN: u64 = 20;
+const OFTEN_ASKED: [Entry; 3] = [Entry::Search, Entry::CheckNote, Entry::WriteNote];
 
 pub struct Tally {
     answers: BTreeMap<(Entry, Outcome), u64>,
     alone: BTreeMap<u32, u64>,
     pub round_trips: u64,
     pub walks_confirmed: u64,
+    pub notes_confirmed: u64,
 }
 
-/// The search's outcomes spent and none are counted by paper and number, as refusals are.
+/// The search's outcomes spent and none are counted by paper and number, as refusals are. The note check's none has
+/// neither.
 #[derive(Clone, Copy, PartialEq, Eq, PartialOrd, Ord)]
 enum Outcome {
     Done,
+    None,
     Refused { paper: u32, number: u32 },
 }
 
@@ -31,6 +35,7 @@ impl Tally {
             alone: BTreeMap::new(),
             round_trips: 0,
             walks_confirmed: 0,
+            notes_confirmed: 0,
         }
     }
 
@@ -38,6 +43,8 @@ impl Tally {
         let outcome = if answer.has_number() {
             let (paper, number) = (answer.paper, answer.number);
             Outcome::Refused { paper, number }
+        } else if answer.is_none() {
+            Outcome::None
         } else {
             Outcome::Done
         };
@@ -80,8 +87,13 @@ impl Tally {
         for entry in Entry::ALL {
             let name = entry.name();
             let done = self.times(entry, Outcome::Done);
-            let least = if entry == Entry::Search { OFTEN } else { 1 };
+            let often = OFTEN_ASKED.contains(&entry);
+            let least = if often { OFTEN } else { 1 };
             require(format!("{name}, anything but a refusal"), done, least);
+            if entry == Entry::CheckNote {
+                let none = self.times(entry, Outcome::None);
+                require(format!("{name}, none"), none, least);
+            }
             for (paper, number) in refusals_of(entry) {
                 let times = self.times(entry, Outcome::Refused { paper, number });
                 let of_judging = JUDGING.contains(&number);
@@ -105,6 +117,11 @@ impl Tally {
         let mut table = line("", &names, "alone");
         table += &line("comparisons", &totals, "");
         table += &line("done", &done, "");
+        let none = Entry::ALL.map(|entry| match entry {
+            Entry::CheckNote => self.times(entry, Outcome::None).to_string(),
+            _ => "-".to_string(),
+        });
+        table += &line("none", &none, "");
         let refusals: BTreeSet<(u32, u32)> = Entry::ALL.into_iter().flat_map(refusals_of).collect();
         for (paper, number) in refusals {
             let times = Entry::ALL.map(|entry| self.times_text(entry, paper, number));
@@ -149,11 +166,14 @@ fn refusals_of(entry: Entry) -> Vec<(u32, u32)> {
 #[cfg(test)]
 mod tests {
     use super::*;
+    use crate::note::check::Proved;
     use crate::refusal::{Fault, Paper, Refusal};
     use crate::samples::empty_job;
     use crate::search::{walk, Searched};
 
-    const EVERY_ANSWER: usize = (1 + 6) + (1 + 5) + (1 + 4) + (1 + 3) + (1 + 6 + 13) + (1 + 7 + 2);
+    const OF_NOTES: usize = (2 + 6 + 13 + 8) + (1 + 6 + 13 + 1 + 1);
+    const EVERY_ANSWER: usize =
+        (1 + 6) + (1 + 5) + (1 + 4) + (1 + 3) + (1 + 6 + 13) + (1 + 7 + 2) + OF_NOTES;
 
     #[test]
     fn an_answer_never_met_is_named() {
@@ -213,6 +233,18 @@ mod tests {
                 tally.count(Entry::Search, answer);
             }
             assert_eq!(named(&tally), if times < 20 { 10 } else { 6 });
+        }
+    }
+
+    #[test]
+    fn a_note_for_none_is_told_from_one_for_a_plan() {
+        let mut tally = Tally::new();
+        let line = "note check, none: met 19 times, not 20 or more".to_string();
+        for (proved, named) in [(Proved::Cheapest { cost: 0 }, false), (Proved::None, true)] {
+            for _ in 0..19 {
+                tally.count(Entry::CheckNote, &Answer::checked(Ok(proved)));
+            }
+            assert_eq!(tally.met_too_seldom().contains(&line), named);
         }
     }
 
