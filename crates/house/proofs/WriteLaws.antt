@@ -14,7 +14,7 @@ use Rattle.bits.specs.Bits.{putField}
 use Rattle.bits.specs.Sheet.{total, putAll}
 use Rattle.bits.proofs.PutLaws.{length-put}
 use Rattle.sheets.specs.Limits.{opCells}
-use Rattle.placing.specs.Closing.{Turn, goes, stops, andThen, goesIf, inTurn, closable, splitOn}
+use Rattle.placing.specs.Closing.{Turn, goes, stops, andThen, goesIf, ifLive, inTurn, closable, splitOn}
 use Rattle.placing.specs.Options.{put}
 use Rattle.placing.specs.Placing.{Placing}
 use Rattle.placing.specs.Ready.{optionAt, Ready}
@@ -91,6 +91,17 @@ leaf-writes may at {room} {t} {r} {sheet} {p} {lows} e l q = go may e q
     go true e q = ends-closed refl refl refl q e l
     go false e q = ends-stopped refl refl refl q e
 
+-- an option that is not live is passed over, and a live one is a place
+pub dead-writes : (t : Turn Draft) {room at : ℕ} {test : Bool} {sheet : List ℕ} {p : Placing} {lows : List ℕ} → test ≡ false → at ≤ room
+    → Writes room (ifLive test t (draft sheet at)) (Closed at) sheet sheet p p lows lows
+unfolding ifLive
+dead-writes t e l = ends-closed refl refl refl refl (rw e) l
+
+pub live-writes : (x : Draft) {room : ℕ} {t : Turn Draft} {r : Branch} {test : Bool} {sheet sheet' : List ℕ} {p p' : Placing} {lows lows' : List ℕ} → test ≡ true
+    → Writes room t r sheet sheet' p p' lows lows' → Writes room (ifLive test t x) r sheet sheet' p p' lows lows'
+unfolding ifLive
+live-writes x e w = rw e w
+
 -- ---- a place before its children
 
 module _ (room w : ℕ) (b : Board) (claim : Claim) (p : Placing) (sheet : List ℕ) (at : ℕ) {may : Bool} (m : may ≡ closable b claim p) where
@@ -141,6 +152,9 @@ split-length sheet at w op e = ap length e ∙ length-put (putField sheet at mar
 
 pub op-less : {b : Board} {op here : ℕ} {p : Placing} {lows : List ℕ} → Ready b op p lows here → (op ≡ b .n → ⊥) → op < b .n
 op-less w h = omega (arith, w .few, h)
+
+pub last-less : {op n : ℕ} → op < n → op ≡ n → ⊥
+last-less l e = omega arith
 
 -- the lowest unplaced operation is op
 pub next-is : {b : Board} {op here : ℕ} {p : Placing} {lows : List ℕ} → Ready b op p lows here → InOrder p op → (op ≡ b .n → ⊥) → nextOp b p ≡ op

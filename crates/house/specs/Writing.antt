@@ -2,15 +2,17 @@
 -- behind them.
 use Prim.Native.Nat.{ℕ, _+_, _≤_, _<_}
 use mathlib.Core.Path.{_≡_}
+use mathlib.Core.Bool.{Bool, true}
 use mathlib.Core.List.{List}
 use lib.Dec.{leb}
 use lib.ListN.{length}
 use Rattle.basics.specs.Numbers.{outputShort}
 use Rattle.basics.specs.Tables.{cell}
 use Rattle.bits.specs.Sheet.{Field, total, putAll}
-use Rattle.placing.specs.Closing.{Turn, goes, stops, andThen, goesIf, closable, splitOn}
+use Rattle.placing.specs.Closing.{Turn, goes, stops, andThen, goesIf, ifLive, closable, splitOn}
+use Rattle.placing.specs.Fitting.{firstStart}
 use Rattle.placing.specs.Options.{none}
-use Rattle.placing.specs.Placing.{Placing}
+use Rattle.placing.specs.Placing.{Placing, live}
 use Rattle.placing.specs.declared.Board.{Board}
 use Rattle.placing.specs.declared.Claim.{Claim}
 use Rattle.notes.specs.NoteSheet.{headFields, splitBits}
@@ -33,6 +35,10 @@ drafted room fs x = goesIf (leb (x .at + total fs) room) outputShort (draft (put
 abbrev pub writeAt : ℕ → ℕ → Board → Claim → ℕ → Placing → Draft → Turn Draft
 writeAt room w b claim d p x = write Placing (closable b claim) (nextOp b) (splitOn b) w (drafted room) d p x
 
+-- an option that was put: a place of its own where it is live, and nothing else
+abbrev pub optionWrite : ℕ → ℕ → Board → Claim → ℕ → Placing → Draft → Turn Draft
+optionWrite room w b claim d p x = ifLive (live b p) (writeAt room w b claim d p x) x
+
 -- header and tree from the first bit of a sheet on
 unfoldable pub draftFrom : Board → Claim → ℕ → List ℕ → Turn Draft
 draftFrom b claim room sheet = andThen (drafted room (headFields (claim .plan)) (draft sheet 0)) (writeAt room splitBits b claim (b .n) none)
@@ -45,6 +51,10 @@ draftEnd (stops number) = stops number
 -- operations are placed in number order
 pub record InOrder (p : Placing) (op : ℕ) : Type 0 where
   pub below : (o : ℕ) → o < op → 1 ≤ cell (p .starts) o
+
+-- links are settled only behind the first start
+pub record Settles (delays near : List ℕ) (p : Placing) (op s : ℕ) (settled : Bool) : Type 0 where
+  pub behind : settled ≡ true → firstStart delays near (p .starts) (p .insts) op op < s
 
 -- where the definition's turn is t: the answer, the bytes where it goes on, its end in the room, and the rows as they came
 pub record Writes (room : ℕ) (t : Turn Draft) (r : Branch) (sheet sheet' : List ℕ) (p p' : Placing) (lows lows' : List ℕ) : Type 0 where

@@ -4,9 +4,9 @@ ghost use Prim.Native.Nat.{_+_, _-_, _*_, _<_, _≤_, _^_};
 ghost use lib.ListN.{length};
 ghost use Rattle.bits.specs.Sheet.{putAll};
 ghost use Rattle.placing.specs.Options.{put as putRow};
-ghost use Rattle.placing.specs.Ready.{boardWith, placing, optionAt, Ready, Places};
+ghost use Rattle.placing.specs.Ready.{boardWith, placing, optionAt, Ready, Tries};
 ghost use Rattle.notes.specs.NoteSheet.{splitMark, maxNote};
-ghost use Rattle.house.specs.Writing.{draft, writeAt, InOrder, Writes};
+ghost use Rattle.house.specs.Writing.{draft, writeAt, optionWrite, InOrder, Settles, Writes};
 use basics::OUTPUT_SHORT;
 use bits::put;
 use notes::Branch;
@@ -19,10 +19,12 @@ use placing::costing::cost_with;
 use placing::costing::lower;
 use placing::fitting::first_start;
 use placing::fitting::fits;
+use placing::fitting::in_time;
 use rules::model::UNIT_CELLS;
 use sheets::limits::*;
 
-// Writes the child with operation op, the lowest unplaced, at step s on instance i, which is live, and takes the row back.
+// Writes the option of operation op, the lowest unplaced, at step s on instance i, which is a place of its own where it is live, and
+// nothing else. Links are settled or not, as the test of a row has it. A child that is closed at once is not placed.
 fn write_child<'a>(
     n: usize,
     k: usize,
@@ -47,26 +49,57 @@ fn write_child<'a>(
     here: u32,
     s: u16,
     i: usize,
+    settled: bool,
     sheet: &mut [u8],
     starts: &mut [u16; OP_CELLS],
     insts: &mut [u16; OP_CELLS],
     lows: &mut [u16; TYPE_CELLS],
 ) -> Branch
-    requires { ⌜ Places
+    requires { ⌜ Tries
         (boardWith n k t e wire clock (now from) (now to) (now types) (now costs) (now times) (now delays) (now spacings) (now lasts) (now near))
         op op (placing (now starts) (now insts)) (now lows) here s i
+        × Settles (now delays) (now near) (placing (now starts) (now insts)) op s settled
         × InOrder (placing (now starts) (now insts)) op
         × (room ≤ 8 * length (now sheet)) × (room ≤ 8 * maxNote) × (at ≤ room) × (n ≤ 2 ^ width) × (width ≤ 16) ⌝ }
     ensures { λ r. ⌜ Writes room
-        (writeAt room width
+        (optionWrite room width
         (boardWith n k t e wire clock (now (from .entry)) (now (to .entry)) (now (types .entry)) (now (costs .entry)) (now (times .entry)) (now (delays .entry)) (now (spacings .entry)) (now (lasts .entry)) (now (near .entry)))
         claim (n - (op + 1)) (putRow (placing (now (starts .entry)) (now (insts .entry))) op (optionAt s i)) (draft (now (sheet .entry)) at))
         r (now (sheet .entry)) (now (sheet .exit)) (placing (now (starts .entry)) (now (insts .entry))) (placing (now (starts .exit)) (now (insts .exit))) (now (lows .entry)) (now (lows .exit)) ⌝ }
 {
+    if !in_time(lasts, op, s, i) {
+        return Branch::Closed(at);
+    }
+    if !fits(
+        from,
+        to,
+        e,
+        wire,
+        clock,
+        times,
+        delays,
+        spacings,
+        lasts,
+        near,
+        starts,
+        insts,
+        settled,
+        op,
+        op,
+        s,
+        i,
+    ) {
+        return Branch::Closed(at);
+    }
     let y = types[i] as usize;
     let low = lows[y];
     lows[y] = lower(low, i as u16);
     let cost = cost_with(types, costs, lows, k, here, low, i);
+    if allowed(claim, cost) & (op + 1 < n) & (at < room) {
+        put(sheet, at, MARK_BITS, 0);
+        lows[y] = low;
+        return Branch::Closed(at + MARK_BITS);
+    }
     let start_was = starts[op];
     let inst_was = insts[op];
     starts[op] = s;
@@ -173,59 +206,40 @@ pub(crate) fn write_place<'a>(
     while s <= t as u32 {
         let mut i: usize = 0;
         while i < k {
-            if fits(
-                from,
-                to,
+            let branch = write_child(
+                n,
+                k,
+                t,
                 e,
                 wire,
                 clock,
+                from,
+                to,
+                types,
+                costs,
                 times,
                 delays,
                 spacings,
                 lasts,
                 near,
-                starts,
-                insts,
-                first < s,
+                width,
+                claim,
+                room,
+                next,
                 op,
-                op,
+                here,
                 s as u16,
                 i,
-            ) {
-                let branch = write_child(
-                    n,
-                    k,
-                    t,
-                    e,
-                    wire,
-                    clock,
-                    from,
-                    to,
-                    types,
-                    costs,
-                    times,
-                    delays,
-                    spacings,
-                    lasts,
-                    near,
-                    width,
-                    claim,
-                    room,
-                    next,
-                    op,
-                    here,
-                    s as u16,
-                    i,
-                    sheet,
-                    starts,
-                    insts,
-                    lows,
-                );
-                let Branch::Closed(end) = branch else {
-                    return branch;
-                };
-                next = end;
-            }
+                first < s,
+                sheet,
+                starts,
+                insts,
+                lows,
+            );
+            let Branch::Closed(end) = branch else {
+                return branch;
+            };
+            next = end;
             i += 1;
         }
         s += 1;

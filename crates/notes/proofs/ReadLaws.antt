@@ -1,11 +1,11 @@
 -- What the proofs of the readers need: the ways a claim is come by, and the ways a place goes on from its mark.
-use Prim.Native.Nat.{ℕ, zero, suc, _+_, _-_, _*_, _≤_, _<_}
+use Prim.Native.Nat.{ℕ, zero, suc, _+_, _-_, _*_, _≤_, _<_, max}
 use mathlib.Core.Path.{_≡_, refl, sym, ap, _∙_}
-use mathlib.Core.Bool.{Bool, true, false, not}
+use mathlib.Core.Bool.{Bool, true, false, not, _&&_}
 use mathlib.Core.List.{List}
 use native.Mathlib.Omega.{arith}
-use borrow.Author.Tests.{eq-eqb, ne-eqb, leb-true, ltb-true, ltb-false}
-use lib.Dec.{ltb, lit<}
+use borrow.Author.Tests.{eq-eqb, ne-eqb, eqb-true, leb-true, ltb-true, ltb-false, not-true}
+use lib.Dec.{eqb, ltb, lit<}
 use lib.ListN.{length}
 use Rattle.basics.specs.Faults.{_orElse_, faultUnless}
 use Rattle.basics.specs.Numbers.{splitBroken, cheaper, noteLong, paperNote}
@@ -23,14 +23,14 @@ use Rattle.sheets.specs.declared.Reading.the-variants.{Read, Refused as Unread}
 use Rattle.rules.specs.Judge.{judged}
 use Rattle.rules.specs.Rules.{placed}
 use Rattle.rules.specs.declared.Judged.{Judged}
-use Rattle.placing.specs.Closing.{Turn, goes, stops, goesIf, inTurn, closable, choice, unplaced, splitOn}
+use Rattle.placing.specs.Closing.{Turn, goes, stops, goesIf, ifLive, inTurn, closable, choice, unplaced, splitOn}
 use Rattle.placing.specs.Board.{WasRead, boardOf}
 use Rattle.placing.specs.Options.{none}
-use Rattle.placing.specs.Placing.{Placing}
+use Rattle.placing.specs.Placing.{Placing, live}
 use Rattle.placing.specs.declared.Board.{Board}
 use Rattle.placing.specs.declared.Claim.{Claim}
 use Rattle.notes.specs.NoteSheet.{markBits, noteHead, splitBits, maxNote}
-use Rattle.notes.specs.Reading.{splits, splitOp, splitEnd, faultIf, markFault, unlessFault, marked, place, placeAt, branchOf}
+use Rattle.notes.specs.Reading.{splits, closes, splitOp, splitEnd, faultIf, markFault, unlessFault, marked, place, placeAt, optionRead, branchOf}
 use Rattle.notes.specs.Check.{noClaim, claimBy, ifRead, ifLent, claimOf, asked, headFault, treeFault, noteFault, checked, checkClaim, checkNote}
 use Rattle.notes.specs.declared.Asked.{Asked}
 use Rattle.notes.specs.declared.Branch.{Branch}
@@ -158,6 +158,49 @@ module _ (note : List ℕ) (w : ℕ) (b : Board) (claim : Claim) (p : Placing) (
 pub read-inside : (note : List ℕ) (w : ℕ) (b : Board) (claim : Claim) (d : ℕ) (p : Placing) (at end : ℕ) → placeAt note w b claim d p at ≡ goes end
     → at ≤ 8 * length note → end ≤ 8 * length note
 read-inside note w b claim d p at end e = place-tree note w Placing (closable b claim) (choice b) (splitOn b) d p at end e .within
+
+-- ---- an option
+
+pub option-inside : (note : List ℕ) (w : ℕ) (b : Board) (claim : Claim) (d : ℕ) (p : Placing) (at end : ℕ) → optionRead note w b claim d p at ≡ goes end
+    → at ≤ 8 * length note → end ≤ 8 * length note
+unfolding ifLive
+option-inside note w b claim d p at end e l = go (live b p) e
+  where
+    go : (t : Bool) → ifLive t (placeAt note w b claim d p at) at ≡ goes end → end ≤ 8 * length note
+    go true q = read-inside note w b claim d p at end q l
+    go false q = let z : at ≡ end = ap (λ (x : Turn ℕ). numberIn (branchOf x)) q in omega arith
+
+pub dead-read : {test : Bool} {at : ℕ} (t : Turn ℕ) → test ≡ false → Closed at ≡ branchOf (ifLive test t at)
+unfolding ifLive
+dead-read t e = rw e
+
+pub live-read : (at : ℕ) {test : Bool} {r : Branch} (t : Turn ℕ) → test ≡ true → r ≡ branchOf t → r ≡ branchOf (ifLive test t at)
+unfolding ifLive
+live-read at t e q = rw e q
+
+-- where it may be closed, and its mark does
+pub once-read : (note : List ℕ) (w : ℕ) (b : Board) (claim : Claim) (p : Placing) (at : ℕ) {left : ℕ} → closable b claim p ≡ true → 0 < left → closes note at ≡ true
+    → Closed (at + markBits) ≡ branchOf (placeAt note w b claim left p at)
+unfolding markFault faultIf faultUnless _orElse_
+once-read note w b claim p at may some h =
+    let c = and-both (eqb (runsOut (length note) (at + markBits)) 0) (not (splits note at)) h in
+    let whole = eqb-true (runsOut (length note) (at + markBits)) 0 (c .0) in
+    let splits-not : splits note at ≡ false = not-true (splits note at) (c .1) in
+    close-place note w b claim p at {may = true} (sym may) (λ z. omega arith) {fault = 0} (sym (rw (whole, splits-not))) refl splits-not
+
+pub three-hold : (x y z : Bool) → x && y && z ≡ true → (x ≡ true) × (y ≡ true) × (z ≡ true)
+three-hold x y z h = let a = and-both (x && y) z h in let b = and-both x y (a .0) in (b .0, b .1, a .1)
+
+-- the operations placed, with one more
+module _ (reach op : ℕ) {r : ℕ} (e : r ≡ max reach (op + 1)) where
+  pub reach-up : reach ≤ r
+  reach-up = omega arith
+
+  pub reach-over : op < r
+  reach-over = omega arith
+
+  pub reach-below : {n : ℕ} → reach ≤ n → op < n → r ≤ n
+  reach-below l k = omega arith
 
 -- ---- a note against a claim
 

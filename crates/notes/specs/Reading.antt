@@ -2,7 +2,7 @@
 -- note on, and goes on at the bit behind them or stops with the number of a refusal.
 use Prim.Native.Nat.{ℕ, zero, suc, _+_}
 use mathlib.Core.Path.{_≡_}
-use mathlib.Core.Bool.{Bool, true, false}
+use mathlib.Core.Bool.{Bool, true, false, not, _&&_}
 use mathlib.Core.List.{List}
 use lib.Dec.{eqb}
 use lib.ListN.{length}
@@ -10,8 +10,8 @@ use Rattle.basics.specs.Faults.{_orElse_, faultUnless}
 use Rattle.basics.specs.Numbers.{splitBroken, closeBroken, cheaper}
 use Rattle.bits.specs.Bits.{field}
 use Rattle.sheets.specs.Groups.{runsOut}
-use Rattle.placing.specs.Closing.{Turn, goes, stops, goesIf, inTurn, closable, choice, splitOn}
-use Rattle.placing.specs.Placing.{Placing}
+use Rattle.placing.specs.Closing.{Turn, goes, stops, goesIf, ifLive, inTurn, closable, choice, splitOn}
+use Rattle.placing.specs.Placing.{Placing, live}
 use Rattle.placing.specs.declared.Board.{Board}
 use Rattle.placing.specs.declared.Claim.{Claim}
 use Rattle.notes.specs.NoteSheet.{markBits}
@@ -22,6 +22,10 @@ use Rattle.notes.specs.declared.Branch.the-variants.{Closed, Refused}
 
 abbrev pub splits : List ℕ → ℕ → Bool
 splits note at = eqb (field note at markBits) 1
+
+-- it is there, and closes
+abbrev pub closes : List ℕ → ℕ → Bool
+closes note at = eqb (runsOut (length note) (at + markBits)) 0 && not (splits note at)
 
 module _ (note : List ℕ) (w : ℕ) where
   -- the operation that it splits on, and the bit behind it
@@ -61,6 +65,10 @@ module _ (note : List ℕ) (w : ℕ) (Node : Type 0) (closable : Node → Bool) 
 
 abbrev pub placeAt : List ℕ → ℕ → Board → Claim → ℕ → Placing → ℕ → Turn ℕ
 placeAt note w b claim d p at = place note w Placing (closable b claim) (choice b) (splitOn b) d p at
+
+-- an option that was put: a place of its own where it is live, and nothing else
+abbrev pub optionRead : List ℕ → ℕ → Board → Claim → ℕ → Placing → ℕ → Turn ℕ
+optionRead note w b claim d p at = ifLive (live b p) (placeAt note w b claim d p at) at
 
 -- as the code answers
 abbrev pub branchOf : Turn ℕ → Branch

@@ -68,6 +68,7 @@ fn note_fault(job: Job, claim: Claim, note: &[u8]) -> u32
         NOTE_HEAD,
         n,
         0,
+        0,
         &mut starts,
         &mut insts,
         &mut lows,

@@ -1,12 +1,13 @@
 // The tree of a note: a place is read as a mark and then its children, each child again a place.
 ghost use mathlib.Core.Path.{_≡_};
-ghost use Prim.Native.Nat.{_+_, _*_, _<_, _≤_, _^_};
+ghost use Prim.Native.Nat.{_+_, _*_, _<_, _≤_, _^_, max};
 ghost use lib.ListN.{length};
 ghost use Rattle.placing.specs.Closing.{goesIf, unplaced as unplacedIn};
-ghost use Rattle.placing.specs.Options.{put};
-ghost use Rattle.placing.specs.Ready.{boardWith, placing, optionAt, Ready, Places};
+ghost use Rattle.placing.specs.Options.{put as putRow};
+ghost use Rattle.placing.specs.Ready.{boardWith, placing, optionAt, Ready, Tries};
+ghost use Rattle.sheets.specs.Limits.{opCells};
 ghost use Rattle.notes.specs.NoteSheet.{maxNote};
-ghost use Rattle.notes.specs.Reading.{splits, splitOp, markFault, placeAt, branchOf, Reads};
+ghost use Rattle.notes.specs.Reading.{splits, closes, splitOp, markFault, placeAt, optionRead, branchOf, Reads};
 use crate::Branch;
 use crate::limits::MARK_BITS;
 use basics::fault_unless;
@@ -19,6 +20,7 @@ use placing::costing::cost_with;
 use placing::costing::lower;
 use placing::fitting::first_start;
 use placing::fitting::fits;
+use placing::fitting::in_time;
 use rules::model::UNIT_CELLS;
 use sheets::groups::runs_out;
 use sheets::limits::*;
@@ -49,32 +51,48 @@ fn split_op(note: &[u8], width: usize, at: usize) -> usize
     bits::field(note, at + MARK_BITS, width) as usize
 }
 
-// The fault of the mark at a bit of the note, where operations are placed by `starts` and the place may be closed or not.
+// The mark at a bit of the note is there, and closes.
+fn closes_at(note: &[u8], at: usize) -> bool
+    requires { ⌜ at < 2 ^ 31 ⌝ }
+    ensures { λ r. ⌜ r ≡ closes (now (note .entry)) at ⌝ }
+{
+    (runs_out(note.len(), at + MARK_BITS) == 0) & !splits_at(note, at)
+}
+
+// The fault of the mark at a bit of the note, which splits or not, on operation op; n operations are placed by `starts`, and the
+// place may be closed or not.
 fn mark_fault<'a>(
     note: &'a [u8],
     width: usize,
     at: usize,
     may: bool,
+    split: bool,
+    op: usize,
     n: usize,
     starts: &'a [u16],
 ) -> u32
-    requires { ⌜ (width ≤ 16) × (at < 2 ^ 31) ⌝ }
+    requires { ⌜ (width ≤ 16) × (at < 2 ^ 31) × (split ≡ splits (now note) at) × (op ≡ splitOp (now note) width at) ⌝ }
     ensures { λ r. ⌜ r ≡ markFault (now (note .entry)) width may (unplacedIn n (now (starts .entry))) at ⌝ }
 {
-    let bytes = note.len();
-    let short = runs_out(bytes, at + MARK_BITS);
-    if !splits_at(note, at) {
+    let short = runs_out(note.len(), at + MARK_BITS);
+    if !split {
         return or_else(short, fault_unless(may, basics::CLOSE_BROKEN));
     }
-    let free = unplaced(n, starts, split_op(note, width, at));
-    let number_short = runs_out(bytes, at + MARK_BITS + width);
-    or_else(
-        short,
-        or_else(number_short, fault_unless(free, basics::SPLIT_BROKEN)),
-    )
+    let number_short = runs_out(note.len(), at + MARK_BITS + width);
+    let broken = fault_unless(unplaced(n, starts, op), basics::SPLIT_BROKEN);
+    or_else(short, or_else(number_short, broken))
 }
 
-// Reads the child with operation op at step s on instance i, which is live, and takes the row back.
+// The operations placed are below this, with op too.
+fn farther(reach: usize, op: usize) -> usize
+    requires { ⌜ op < opCells ⌝ }
+    ensures { λ r. ⌜ r ≡ max reach (op + 1) ⌝ }
+{
+    if reach <= op { op + 1 } else { reach }
+}
+
+// Reads the option of operation op at step s on instance i, which is a place of its own where it is live, and nothing else. A child
+// that is closed at once is not placed.
 fn child<'a>(
     n: usize,
     k: usize,
@@ -96,6 +114,7 @@ fn child<'a>(
     claim: Claim,
     at: usize,
     left: usize,
+    reach: usize,
     op: usize,
     here: u32,
     s: u16,
@@ -104,20 +123,48 @@ fn child<'a>(
     insts: &mut [u16; OP_CELLS],
     lows: &mut [u16; TYPE_CELLS],
 ) -> Branch
-    requires { ⌜ Places
+    requires { ⌜ Tries
         (boardWith n k t e wire clock (now from) (now to) (now types) (now costs) (now times) (now delays) (now spacings) (now lasts) (now near))
-        n op (placing (now starts) (now insts)) (now lows) here s i
+        reach op (placing (now starts) (now insts)) (now lows) here s i
         × (length (now note) ≤ maxNote) × (at ≤ 8 * length (now note)) × (width ≤ 16) ⌝ }
     ensures { λ r. ⌜ Reads
-        (placeAt (now (note .entry)) width
+        (optionRead (now (note .entry)) width
         (boardWith n k t e wire clock (now (from .entry)) (now (to .entry)) (now (types .entry)) (now (costs .entry)) (now (times .entry)) (now (delays .entry)) (now (spacings .entry)) (now (lasts .entry)) (now (near .entry)))
-        claim left (put (placing (now (starts .entry)) (now (insts .entry))) op (optionAt s i)) at)
+        claim left (putRow (placing (now (starts .entry)) (now (insts .entry))) op (optionAt s i)) at)
         r (placing (now (starts .entry)) (now (insts .entry))) (placing (now (starts .exit)) (now (insts .exit))) (now (lows .entry)) (now (lows .exit)) ⌝ }
 {
+    if !in_time(lasts, op, s, i) {
+        return Branch::Closed(at);
+    }
+    if !fits(
+        from,
+        to,
+        e,
+        wire,
+        clock,
+        times,
+        delays,
+        spacings,
+        lasts,
+        near,
+        starts,
+        insts,
+        false,
+        reach,
+        op,
+        s,
+        i,
+    ) {
+        return Branch::Closed(at);
+    }
     let y = types[i] as usize;
     let low = lows[y];
     lows[y] = lower(low, i as u16);
     let cost = cost_with(types, costs, lows, k, here, low, i);
+    if allowed(claim, cost) & (0 < left) & closes_at(note, at) {
+        lows[y] = low;
+        return Branch::Closed(at + MARK_BITS);
+    }
     let start_was = starts[op];
     let inst_was = insts[op];
     starts[op] = s;
@@ -143,6 +190,7 @@ fn child<'a>(
         claim,
         at,
         left,
+        farther(reach, op),
         cost,
         starts,
         insts,
@@ -176,6 +224,7 @@ pub(crate) fn place<'a>(
     claim: Claim,
     at: usize,
     left: usize,
+    reach: usize,
     here: u32,
     starts: &mut [u16; OP_CELLS],
     insts: &mut [u16; OP_CELLS],
@@ -183,7 +232,7 @@ pub(crate) fn place<'a>(
 ) -> Branch
     requires { ⌜ Ready
         (boardWith n k t e wire clock (now from) (now to) (now types) (now costs) (now times) (now delays) (now spacings) (now lasts) (now near))
-        n (placing (now starts) (now insts)) (now lows) here
+        reach (placing (now starts) (now insts)) (now lows) here
         × (length (now note) ≤ maxNote) × (at ≤ 8 * length (now note)) × (width ≤ 16) ⌝ }
     ensures { λ r. ⌜ Reads
         (placeAt (now (note .entry)) width
@@ -195,72 +244,54 @@ pub(crate) fn place<'a>(
     if left == 0 {
         return closed_if(may, basics::CHEAPER, at);
     }
-    let fault = mark_fault(note, width, at, may, n, starts);
+    let split = splits_at(note, at);
+    let op = split_op(note, width, at);
+    let fault = mark_fault(note, width, at, may, split, op, n, starts);
     if fault != 0 {
         return Branch::Refused(fault);
     }
-    if !splits_at(note, at) {
+    if !split {
         return Branch::Closed(at + MARK_BITS);
     }
-    let op = split_op(note, width, at);
     let mut next = at + MARK_BITS + width;
     let mut s = first_start(delays, near, starts, insts, op);
     while s <= t as u32 {
         let mut i: usize = 0;
         while i < k {
-            if fits(
-                from,
-                to,
+            let branch = child(
+                n,
+                k,
+                t,
                 e,
                 wire,
                 clock,
+                from,
+                to,
+                types,
+                costs,
                 times,
                 delays,
                 spacings,
                 lasts,
                 near,
-                starts,
-                insts,
-                false,
-                n,
+                note,
+                width,
+                claim,
+                next,
+                left - 1,
+                reach,
                 op,
+                here,
                 s as u16,
                 i,
-            ) {
-                let branch = child(
-                    n,
-                    k,
-                    t,
-                    e,
-                    wire,
-                    clock,
-                    from,
-                    to,
-                    types,
-                    costs,
-                    times,
-                    delays,
-                    spacings,
-                    lasts,
-                    near,
-                    note,
-                    width,
-                    claim,
-                    next,
-                    left - 1,
-                    op,
-                    here,
-                    s as u16,
-                    i,
-                    starts,
-                    insts,
-                    lows,
-                );
-                let Branch::Closed(end) = branch else {
-                    return branch;
-                };
-                next = end;
-            }
+                starts,
+                insts,
+                lows,
+            );
+            let Branch::Closed(end) = branch else {
+                return branch;
+            };
+            next = end;
             i += 1;
         }
         s += 1;

@@ -1,13 +1,13 @@
 -- What a function that places one more row can say of it. The code's test is whether the option is live: `fits-ready`, in whatever
--- order rows are placed, and `fits-in-order` in number order. With the row the board is ready for the next one: `next-ready`; with
+-- order rows are placed, and `fits-settled` and `fits-in-order` in number order. With the row the board is ready for the next one: `next-ready`; with
 -- nothing placed it is: `none-ready`. A row that is taken back leaves what was there: `restored`, `rows-back`.
 use Prim.Native.Nat.{ℕ, _≤_, _<_, min}
 use mathlib.Core.Path.{_≡_, refl, sym, ap, ap₂, _∙_}
-use mathlib.Core.Bool.{Bool, false}
+use mathlib.Core.Bool.{Bool, true, false}
 use mathlib.Core.List.{List}
 use native.Mathlib.Omega.{arith}
 use borrow.Author.Tests.{ltb-true}
-use lib.Dec.{ltb}
+use lib.Dec.{leb, ltb}
 use lib.ListN.{set, length-set, replicate}
 use lib.Seq.{set-set, set-getD, getD-set-other}
 use Rattle.basics.specs.Tables.{cell}
@@ -21,7 +21,7 @@ use Rattle.placing.specs.Costing.{costWith}
 use Rattle.placing.specs.Fitting.{fits, firstStart}
 use Rattle.placing.specs.Options.{none, put}
 use Rattle.placing.specs.Placing.{Placing, live}
-use Rattle.placing.specs.Ready.{placing, optionAt, Ready, Places}
+use Rattle.placing.specs.Ready.{placing, optionAt, Ready, Tries, Places}
 use Rattle.placing.proofs.CostLaws.{tracks-none, tracks-put}
 use Rattle.placing.proofs.FitLaws.{fits-live, settled-links}
 use Rattle.placing.proofs.PartLaws.{none-live}
@@ -55,14 +55,20 @@ fits-ready {b} {reach} {op} {p} w more free s i a l e =
     (λ h. absurd (let z : _≡_ {A = ℕ} 0 1 = cc in omega arith)) (w .behind) (w .few) more l a free)
 
 -- in number order links are settled behind the first start
+pub fits-settled : {b : Board} {op : ℕ} {p : Placing} {lows : List ℕ} {here : ℕ} (w : Ready b op p lows here) → op < b .n
+    → {r : Bool} (settled : Bool) (s i : ℕ) → (settled ≡ true → firstStart (b .delays) (b .near) (p .starts) (p .insts) op op < s) → 1 ≤ s → i < b .k
+    → r ≡ fits (b .from) (b .to) (b .e) (b .wire) (b .clock) (b .times) (b .delays) (b .spacings) (b .lasts) (b .near) (p .starts) (p .insts) settled op op s i
+    → live b (put p op (optionAt s i)) ≡ r
+fits-settled {b} {op} {p} w more settled s i f a l e =
+    sym (e ∙ fits-live b (w .of) p (w .starts-long) (w .insts-long) (w .alive) settled op op s i
+    (λ h. settled-links (b .delays) (b .near) (p .starts) (p .insts) op (b .times) (b .wire) (b .clock) s (unit (b .times) op i) (unit (b .delays) op i) (f h))
+    (w .behind) (w .few) more l a (w .behind op (omega arith)))
+
 pub fits-in-order : {b : Board} {op : ℕ} {p : Placing} {lows : List ℕ} {here : ℕ} (w : Ready b op p lows here) → op < b .n
     → {r : Bool} (first s i : ℕ) → first ≡ firstStart (b .delays) (b .near) (p .starts) (p .insts) op op → 1 ≤ s → i < b .k
     → r ≡ fits (b .from) (b .to) (b .e) (b .wire) (b .clock) (b .times) (b .delays) (b .spacings) (b .lasts) (b .near) (p .starts) (p .insts) (ltb first s) op op s i
     → live b (put p op (optionAt s i)) ≡ r
-fits-in-order {b} {op} {p} w more first s i f a l e =
-    sym (e ∙ fits-live b (w .of) p (w .starts-long) (w .insts-long) (w .alive) (ltb first s) op op s i
-    (λ h. settled-links (b .delays) (b .near) (p .starts) (p .insts) op (b .times) (b .wire) (b .clock) s (unit (b .times) op i) (unit (b .delays) op i) (rw f at (ltb-true first s h)))
-    (w .behind) (w .few) more l a (w .behind op (omega arith)))
+fits-in-order w more first s i f a l e = fits-settled w more (ltb first s) s i (λ h. rw f at (ltb-true first s h)) a l e
 
 -- ---- from row to row
 
@@ -97,3 +103,13 @@ none-ready b of reach few =
       insts-long = refl;
       lows-long = refl;
     }
+
+-- an option that is not done in time is not live
+pub late-dead : {b : Board} {reach op : ℕ} {p : Placing} {lows : List ℕ} {here s i : ℕ} → Tries b reach op p lows here s i → leb s (unit (b .lasts) op i) ≡ false
+    → live b (put p op (optionAt s i)) ≡ false
+unfolding fits
+late-dead {b} {reach} {op} {p} {lows} {here} {s} {i} w late = fits-ready (w .able) (w .more) (w .free) s i (w .begins) (w .unit) (sym (rw late))
+
+pub tries-places : {b : Board} {reach op : ℕ} {p : Placing} {lows : List ℕ} {here s i : ℕ} → Tries b reach op p lows here s i → live b (put p op (optionAt s i)) ≡ true
+    → Places b reach op p lows here s i
+tries-places w l = record { able = w .able; more = w .more; free = w .free; begins = w .begins; unit = w .unit; lives = l }

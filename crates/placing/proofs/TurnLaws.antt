@@ -1,16 +1,16 @@
 -- The two loops over the options of an operation that take a step at each live one, which goes on or stops. `Stands` says where such
--- a loop is: what it changed is as it was, and the options left lead where the loop began to lead. One option further: `after-dead`,
--- `after-live`; one start further: `begin-start`, `next-start`; the end: `stops-at`, `stands-end`.
+-- a loop is: what it changed is as it was, and the options left lead where the loop began to lead. One option further:
+-- `after-option`; one start further: `begin-start`, `next-start`; the end: `stops-option`, `stands-end`.
 use Prim.Native.Nat.{ℕ, _+_, _≤_, _<_}
 use mathlib.Core.Path.{_≡_, refl, sym, ap, _∙_}
-use mathlib.Core.Bool.{true, false}
+use mathlib.Core.Bool.{Bool, true, false}
 use mathlib.Core.List.{List}
 use Rattle.basics.specs.Tables.{cell}
 use Rattle.placing.specs.declared.Board.{Board}
-use Rattle.placing.specs.Closing.{Turn, goes, stops, andThen, inTurn}
+use Rattle.placing.specs.Closing.{Turn, goes, stops, andThen, ifLive, inTurn}
 use Rattle.placing.specs.Options.{Option, put, liveOnes}
 use Rattle.placing.specs.Placing.{Placing, live}
-use Rattle.placing.specs.Ready.{placing, optionAt, Ready}
+use Rattle.placing.specs.Ready.{optionAt, Ready}
 use Rattle.placing.proofs.RowLaws.{row, from-start, row-start, row-end, row-live, row-dead, no-rows}
 
 -- where a loop over the options of op stands: what it changed is as it was, and the rest of the options leads to u
@@ -37,40 +37,29 @@ module _ {A : Type 0} {b : Board} {reach op here : ℕ} {f : Placing → A → T
 
   -- ---- one option further
 
-  -- one that is not live is passed over
-  pub after-dead : {starts starts' insts insts' lows lows' : List ℕ} {x x' : A} (s i : ℕ)
-      → Stands b reach op here f p₀ lows₀ u (placing starts insts) lows x (row b s i) → i < b .k → live b (put (placing starts insts) op (optionAt s i)) ≡ false
-      → starts' ≡ starts → insts' ≡ insts → lows' ≡ lows → x' ≡ x
-      → Stands b reach op here f p₀ lows₀ u (placing starts' insts') lows' x' (row b s (i + 1))
-  after-dead {starts} {starts'} {insts} {insts'} {lows} {lows'} {x} {x'} s i st l d e₁ e₂ e₃ e₄ =
-      let p : Placing = placing starts insts in
-      stands-as st (λ k. placing (e₁ k) (e₂ k)) e₃
-      (ap (inTurn f (liveOnes b p op (row b s (i + 1)))) e₄ ∙ ap (λ (ps : List Placing). inTurn f ps x) (sym (row-dead b p op s i l d)) ∙ st .leads)
-
-  -- a live one leads where its step does
+  -- what the options left come to is this option's turn and then the others
   turns-at : {p : Placing} {lows : List ℕ} {x : A} (s i : ℕ) → Stands b reach op here f p₀ lows₀ u p lows x (row b s i) → i < b .k
-      → live b (put p op (optionAt s i)) ≡ true → andThen (f (put p op (optionAt s i)) x) (inTurn f (liveOnes b p op (row b s (i + 1)))) ≡ u
-  unfolding inTurn
-  turns-at {p} {lows} {x} s i st l d = ap (λ (ps : List Placing). inTurn f ps x) (sym (row-live b p op s i l d)) ∙ st .leads
+      → andThen (ifLive (live b (put p op (optionAt s i))) (f (put p op (optionAt s i)) x) x) (inTurn f (liveOnes b p op (row b s (i + 1)))) ≡ u
+  unfolding inTurn andThen ifLive
+  turns-at {p} {lows} {x} s i st l = go (live b (put p op (optionAt s i))) refl
+    where
+      go : (t : Bool) → live b (put p op (optionAt s i)) ≡ t
+          → andThen (ifLive t (f (put p op (optionAt s i)) x) x) (inTurn f (liveOnes b p op (row b s (i + 1)))) ≡ u
+      go true e = ap (λ (ps : List Placing). inTurn f ps x) (sym (row-live b p op s i l e)) ∙ st .leads
+      go false e = ap (λ (ps : List Placing). inTurn f ps x) (sym (row-dead b p op s i l e)) ∙ st .leads
 
-  pub after-live : {starts starts' starts'' insts insts' insts'' lows lows' lows'' : List ℕ} {x x' x'' : A} (s i : ℕ)
-      → Stands b reach op here f p₀ lows₀ u (placing starts insts) lows x (row b s i) → i < b .k → live b (put (placing starts insts) op (optionAt s i)) ≡ true
-      → f (put (placing starts insts) op (optionAt s i)) x ≡ goes x' → placing starts' insts' ≡ placing starts insts → lows' ≡ lows
-      → starts'' ≡ starts' → insts'' ≡ insts' → lows'' ≡ lows' → x'' ≡ x'
-      → Stands b reach op here f p₀ lows₀ u (placing starts'' insts'') lows'' x'' (row b s (i + 1))
+  pub after-option : {p p' : Placing} {lows lows' : List ℕ} {x x' : A} (s i : ℕ) → Stands b reach op here f p₀ lows₀ u p lows x (row b s i) → i < b .k
+      → ifLive (live b (put p op (optionAt s i))) (f (put p op (optionAt s i)) x) x ≡ goes x' → p' ≡ p → lows' ≡ lows
+      → Stands b reach op here f p₀ lows₀ u p' lows' x' (row b s (i + 1))
   unfolding andThen
-  after-live {starts} {starts'} {starts''} {insts} {insts'} {insts''} {lows} {lows'} {lows''} {x} {x'} {x''} s i st l d q e g e₁ e₂ e₃ e₄ =
-      let p : Placing = placing starts insts in
-      let a : placing starts'' insts'' ≡ placing starts' insts' = λ k. placing (e₁ k) (e₂ k) in
-      let after : A → Turn A = inTurn f (liveOnes b p op (row b s (i + 1))) in
-      stands-as st (a ∙ e) (e₃ ∙ g) (ap after e₄ ∙ ap (λ (t : Turn A). andThen t after) (sym q) ∙ turns-at s i st l d)
+  after-option {p} {p'} {lows} {lows'} {x} {x'} s i st l q e g =
+      stands-as st e g (ap (λ (t : Turn A). andThen t (inTurn f (liveOnes b p op (row b s (i + 1))))) (sym q) ∙ turns-at s i st l)
 
   -- a step that stops, stops the loop
-  pub stops-at : {p : Placing} {lows : List ℕ} {x : A} (s i : ℕ) → Stands b reach op here f p₀ lows₀ u p lows x (row b s i) → i < b .k
-      → live b (put p op (optionAt s i)) ≡ true → {number : ℕ} → f (put p op (optionAt s i)) x ≡ stops number → u ≡ stops number
+  pub stops-option : {p : Placing} {lows : List ℕ} {x : A} (s i : ℕ) → Stands b reach op here f p₀ lows₀ u p lows x (row b s i) → i < b .k → {number : ℕ}
+      → ifLive (live b (put p op (optionAt s i))) (f (put p op (optionAt s i)) x) x ≡ stops number → u ≡ stops number
   unfolding andThen
-  stops-at {p} {lows} {x} s i st l d q =
-      sym (turns-at s i st l d) ∙ ap (λ (t : Turn A). andThen t (inTurn f (liveOnes b p op (row b s (i + 1))))) q
+  stops-option {p} {lows} {x} s i st l q = sym (turns-at s i st l) ∙ ap (λ (t : Turn A). andThen t (inTurn f (liveOnes b p op (row b s (i + 1))))) q
 
   -- ---- the starts
 

@@ -59,6 +59,11 @@ module _ {A : Type 0} where
   goesIf true number x = goes x
   goesIf false number x = stops number
 
+  -- an option that is live takes its step, any other is passed over
+  unfoldable pub ifLive : Bool → Turn A → A → Turn A
+  ifLive true step x = step
+  ifLive false step x = goes x
+
 module _ {Node A : Type 0} (step : Node → A → Turn A) where
   unfoldable pub inTurn : List Node → A → Turn A
   inTurn [] x = goes x

@@ -1,4 +1,4 @@
--- What a function that places one more row asks: `Ready` of the rows placed so far, and `Places` of the row. `boardWith`, `placing`
+-- What a function that places one more row asks: `Ready` of the rows placed so far, `Tries` of an option, and `Places` of one that is live. `boardWith`, `placing`
 -- and `optionAt` put together what the code has in pieces.
 use Prim.Native.Nat.{ℕ, _≤_, _<_}
 use mathlib.Core.Path.{_≡_}
@@ -50,7 +50,15 @@ pub record Ready (b : Board) (reach : ℕ) (p : Placing) (lows : List ℕ) (here
   pub insts-long : length (p .insts) ≡ opCells
   pub lows-long : length lows ≡ typeCells
 
--- and operation op, which is not placed, can be placed at step s on instance i
+-- and an option of operation op, which is not placed: step s on instance i
+pub record Tries (b : Board) (reach op : ℕ) (p : Placing) (lows : List ℕ) (here s i : ℕ) : Type 0 where
+  pub able : Ready b reach p lows here
+  pub more : op < b .n
+  pub free : cell (p .starts) op ≡ 0
+  pub begins : 1 ≤ s
+  pub unit : i < b .k
+
+-- and it is live
 pub record Places (b : Board) (reach op : ℕ) (p : Placing) (lows : List ℕ) (here s i : ℕ) : Type 0 where
   pub able : Ready b reach p lows here
   pub more : op < b .n

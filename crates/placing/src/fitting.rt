@@ -1,6 +1,7 @@
 // One more row, operation op at step s on instance i, against rows placed before, all of them below `reach`.
 ghost use mathlib.Core.Path.{_≡_};
 ghost use Prim.Native.Nat.{_<_, _≤_, _^_, max};
+ghost use lib.Dec.{leb};
 ghost use lib.ListN.{length};
 ghost use Rattle.sheets.specs.Limits.{opCells, instCells};
 ghost use Rattle.rules.specs.Model.{rowTable};
@@ -211,6 +212,15 @@ fn chains_fit<'a>(
     let mut row_times = times_in(times, insts);
     row_times[op] = time;
     chains_ok(from, to, e, wire, clock, &with, &row_times)
+}
+
+// Operation op is done in time if it starts at step s on instance i: what the test below begins with, for loops to ask before they
+// call it.
+pub fn in_time(lasts: &[u16], op: usize, s: u16, i: usize) -> bool
+    requires { ⌜ (op < opCells) × (i < 2 ^ 16) ⌝ }
+    ensures { λ r. ⌜ r ≡ leb s (unit (now (lasts .entry)) op i) ⌝ }
+{
+    s <= unit_at(lasts, op, i)
 }
 
 // Operation op can be placed at step s on instance i. Where its links are settled, because those that they join to it end before

@@ -13,7 +13,7 @@ same-length : tie.Need-same-length
 same-length c = search needs
 
 returns : tie.Need-returns
-returns c = 
+returns c =
     let w = c .before .before .before .write-note .ensures in
     record { told = rw (c .written-says .ensures, w .told); bytes = w .bytes }
 

@@ -1,14 +1,17 @@
--- A mark is written as the definition writes it, and the loops stand where it does: an option that fits is live and is written as a child,
--- any other is passed over; a child is written with its row placed, and the row is taken back.
+-- A mark is written as the definition writes it, and the loops stand where it does; each option is a child where it is live, and nothing
+-- else. A child is written with its row placed, and the row is taken back; one that is closed at once needs no row.
 use Prim.Native.Nat.{ℕ, _+_, _-_, _*_, _<_, _≤_}
 use mathlib.Core.Path.{_≡_, refl, sym, ap, _∙_}
+use mathlib.Core.Bool.{true}
 use mathlib.Core.List.{List}
-use mathlib.Core.Logic.{⊎-elim}
 use native.Mathlib.Omega.{arith}
 use borrow.Author.Needs.{needs}
+use borrow.Author.Tests.{ltb-true, not-true, not-false}
 use borrow.Fn.Kinds.{In, Out}
+use lib.Dec.{ltb}
 use lib.ListN.{length}
 use Rattle.basics.specs.Tables.{cell}
+use Rattle.bits.specs.Sheet.{putAll}
 use Rattle.sheets.specs.Limits.{opCells, instCells, typeCells, maxSteps}
 use Rattle.placing.specs.Closing.{inTurn}
 use Rattle.placing.specs.Fitting.{firstStart}
@@ -17,12 +20,12 @@ use Rattle.placing.specs.Placing.{Placing, live}
 use Rattle.placing.specs.Ready.{boardWith, placing, optionAt}
 use Rattle.placing.proofs.BoardLaws.{few-insts, few-ops, few-steps, near-leads, type-small}
 use Rattle.placing.proofs.RowLaws.{row, from-start, first-positive, same-first, first-rows}
-use Rattle.placing.proofs.ReadyLaws.{restored, rows-back, may-close, fits-in-order, next-ready}
-use Rattle.placing.proofs.TurnLaws.{Stands, stands-whole, after-dead, after-live, stops-at, stands-end, begin-start, next-start}
-use Rattle.bits.specs.Sheet.{putAll}
+use Rattle.placing.proofs.ReadyLaws.{restored, rows-back, may-close, fits-settled, next-ready, late-dead, tries-places}
+use Rattle.placing.proofs.TurnLaws.{Stands, stands-whole, after-option, stops-option, stands-end, begin-start, next-start}
 use Rattle.notes.specs.NoteSheet.{markBits, splitMark}
+use Rattle.notes.proofs.ReadLaws.{three-hold}
 use Rattle.house.specs.Writing.{draft, writeAt}
-use Rattle.house.proofs.WriteLaws.{closed-draft, refused-draft, ends-stopped, ends-closed, leaf-writes, leaf-end, close-goes, close-stops, split-goes, split-stops, put-length, split-length, op-less, next-is, next-order, same-order}
+use Rattle.house.proofs.WriteLaws.{closed-draft, refused-draft, ends-stopped, ends-closed, leaf-writes, dead-writes, live-writes, leaf-end, close-goes, close-stops, split-goes, split-stops, put-length, split-length, op-less, last-less, next-is, next-order, same-order}
 use borrow.Fn.PlainCycle.{Measures, is, falls, and}
 use Rattle.house.proofs.places.write_child.Reads as write-child
 use Rattle.house.proofs.places.write_child.Kinds as write-child-kinds
@@ -38,6 +41,7 @@ use Rattle.placing.proofs.costing.cost_with.Reads as cost-with-reads
 use Rattle.placing.proofs.costing.lower.Reads as lower-reads
 use Rattle.placing.proofs.fitting.first_start.Reads as first-start-reads
 use Rattle.placing.proofs.fitting.fits.Reads as fits-reads
+use Rattle.placing.proofs.fitting.in_time.Reads as in-time-reads
 use Rattle.house.proofs.places.+write_child+write_place.{statement}
 use Rattle.house.proofs.places.+write_child+write_place.Tie.{close}
 
@@ -62,7 +66,7 @@ write-place-below t = and 5 write-place-kinds.ps (falls 5 write-place-kinds.ps _
 -- ---- write_child
 
 abbrev child-callees : ℕ → write-child-lts.Claims
-child-callees t = (lower-reads.Asked, lower-reads.Learnt, cost-with-reads.Asked, cost-with-reads.Learnt, write-place-below t, write-place.Post)
+child-callees t = (in-time-reads.Asked, in-time-reads.Learnt, fits-reads.Asked, fits-reads.Learnt, lower-reads.Asked, lower-reads.Learnt, cost-with-reads.Asked, cost-with-reads.Learnt, allowed-reads.Asked, allowed-reads.Learnt, put-reads.Asked, put-reads.Learnt, write-place-below t, write-place.Post)
 
 -- a place in the code at every measure t, and a need there
 abbrev ChildAt : ((cs : write-child-lts.Claims) → In 5 write-child-kinds.ps → Out 5 write-child-kinds.ps write-child-kinds.r → Type 0) → ℕ → Type 0
@@ -80,114 +84,176 @@ child-small t c =
     let few = few-insts _ (w .able .of) in
     (omega (arith, w .more, few-ops _ (w .able .of)), omega (arith, w .unit), type-small _ (w .able .of) _ (w .unit), few)
 
+-- the option is live exactly where the code's test holds
+lives : (t : ℕ) (c : ChildAt write-child-lts.After-fits2 t)
+    → let a = c .before .before .before .before .before .before .before .before .before .before .before .before .before .args in
+    live (boardWith (a .n) (a .k) (a .t) (a .e) (a .wire) (a .clock) (a .from .now) (a .to .now) (a .types .now) (a .costs .now) (a .times .now) (a .delays .now) (a .spacings .now) (a .lasts .now) (a .near .now)) (put (placing (a .starts .now) (a .insts .now)) (a .op) (optionAt (a .s) (a .i))) ≡ c .fits2 .result
+lives t c =
+    let w = c .before .before .before .before .before .before .before .before .before .before .before .before .before .pre .1 in
+    fits-settled (w .0 .able) (w .0 .more) _ _ _ (w .1 .behind) (w .0 .begins) (w .0 .unit) (c .fits2 .ensures)
+
+-- a child that is closed at once
+once : (t : ℕ) (c : ChildAt write-child-lts.Then3 t) → let a = c .before .before .before .before .before .before .before .before .before .before .before .before .before .before .before .before .before .before .before .before .before .before .before .before .args in (c .before .allowed .result ≡ true) × (a .op + 1 < a .n) × (a .at < a .room)
+once t c =
+    let a = c .before .before .before .before .before .before .before .before .before .before .before .before .before .before .before .before .before .before .before .before .before .before .before .before .args in
+    let h = three-hold (c .before .allowed .result) (ltb (a .op + 1) (a .n)) (ltb (a .at) (a .room)) (c .if3 .taken) in
+    (h .0, ltb-true (a .op + 1) (a .n) (h .1), ltb-true (a .at) (a .room) (h .2))
+
+write-child-in-time-requires : ChildNeed write-child-lts.Need-in-time-requires
+write-child-in-time-requires t c κs = let z = child-small t (c .before .before) in (z .0, omega arith)
+
+write-child-returns : ChildNeed write-child-lts.Need-returns
+write-child-returns t c = dead-writes _ (late-dead (c .before .before .before .before .pre .1 .0) (sym (c .before .in-time .ensures) ∙ not-true _ (c .if1 .taken))) (c .before .before .before .before .pre .1 .5)
+
+write-child-fits-requires : ChildNeed write-child-lts.Need-fits-requires
+write-child-fits-requires t c κs = let w = c .before .before .before .before .before .before .before .before .before .before .before .before .pre .1 .0 in let z = child-small t (c .before .before .before .before .before .before .before .before .before .before .before .before) in (omega arith, z .0, omega arith, w .able .starts-long, near-leads _ (w .able .of) _ (w .more))
+
+write-child-returns-2 : ChildNeed write-child-lts.Need-returns-2
+write-child-returns-2 t c = dead-writes _ (lives t (c .before) ∙ not-true _ (c .if2 .taken)) (c .before .before .before .before .before .before .before .before .before .before .before .before .before .before .pre .1 .5)
+
 write-child-mul-y : ChildNeed write-child-lts.Need-mul-y
-write-child-mul-y t c = let z = child-small t (c .before) in omega arith
+write-child-mul-y t c = let z = child-small t (c .before .before .before .before .before .before .before .before .before .before .before .before .before .before) in omega arith
 
 write-child-element-copy-out-y : ChildNeed write-child-lts.Need-element-copy-out-y
-write-child-element-copy-out-y t c = child-small t (c .before) .1
+write-child-element-copy-out-y t c = child-small t (c .before .before .before .before .before .before .before .before .before .before .before .before .before .before) .1
 
 write-child-cast-y : ChildNeed write-child-lts.Need-cast-y
-write-child-cast-y t c = let z = child-small t (c .before .before) in omega arith
+write-child-cast-y t c = let z = child-small t (c .before .before .before .before .before .before .before .before .before .before .before .before .before .before .before) in omega arith
 
 write-child-mul-low : ChildNeed write-child-lts.Need-mul-low
-write-child-mul-low t c = let z = child-small t (c .before .before) in omega arith
+write-child-mul-low t c = let z = child-small t (c .before .before .before .before .before .before .before .before .before .before .before .before .before .before .before) in omega arith
 
 write-child-element-copy-out-low : ChildNeed write-child-lts.Need-element-copy-out-low
-write-child-element-copy-out-low t c = child-small t (c .before .before) .2
+write-child-element-copy-out-low t c = child-small t (c .before .before .before .before .before .before .before .before .before .before .before .before .before .before .before) .2
 
 write-child-cast-lower : ChildNeed write-child-lts.Need-cast-lower
-write-child-cast-lower t c = let z = child-small t (c .before .before .before) in omega arith
+write-child-cast-lower t c = let z = child-small t (c .before .before .before .before .before .before .before .before .before .before .before .before .before .before .before .before) in omega arith
 
 write-child-lower-requires : ChildNeed write-child-lts.Need-lower-requires
 write-child-lower-requires t c κs = search needs
 
 write-child-mul-lows : ChildNeed write-child-lts.Need-mul-lows
-write-child-mul-lows t c = let z = child-small t (c .before .before .before .before) in omega arith
+write-child-mul-lows t c = let z = child-small t (c .before .before .before .before .before .before .before .before .before .before .before .before .before .before .before .before .before) in omega arith
 
 write-child-element-write-lows : ChildNeed write-child-lts.Need-element-write-lows
-write-child-element-write-lows t c = child-small t (c .before .before .before .before) .2
+write-child-element-write-lows t c = child-small t (c .before .before .before .before .before .before .before .before .before .before .before .before .before .before .before .before .before) .2
 
 write-child-cost-with-requires : ChildNeed write-child-lts.Need-cost-with-requires
-write-child-cost-with-requires t c κs = child-small t (c .before .before .before .before .before .before .before .before) .3
+write-child-cost-with-requires t c κs = child-small t (c .before .before .before .before .before .before .before .before .before .before .before .before .before .before .before .before .before .before .before .before .before) .3
 
-write-child-mul-start-was : ChildNeed write-child-lts.Need-mul-start-was
-write-child-mul-start-was t c = let z = child-small t (c .before .before .before .before .before .before .before .before .before) in omega arith
+write-child-allowed-requires : ChildNeed write-child-lts.Need-allowed-requires
+write-child-allowed-requires t c κs = search needs
 
-write-child-element-copy-out-start-was : ChildNeed write-child-lts.Need-element-copy-out-start-was
-write-child-element-copy-out-start-was t c = child-small t (c .before .before .before .before .before .before .before .before .before) .0
+write-child-add-if3 : ChildNeed write-child-lts.Need-add-if3
+write-child-add-if3 t c = let z = child-small t (c .before .before .before .before .before .before .before .before .before .before .before .before .before .before .before .before .before .before .before .before .before .before .before) in omega arith
 
-write-child-mul-inst-was : ChildNeed write-child-lts.Need-mul-inst-was
-write-child-mul-inst-was t c = let z = child-small t (c .before .before .before .before .before .before .before .before .before .before) in omega arith
-
-write-child-element-copy-out-inst-was : ChildNeed write-child-lts.Need-element-copy-out-inst-was
-write-child-element-copy-out-inst-was t c = child-small t (c .before .before .before .before .before .before .before .before .before .before) .0
-
-write-child-mul-starts : ChildNeed write-child-lts.Need-mul-starts
-write-child-mul-starts t c = let z = child-small t (c .before .before .before .before .before .before .before .before .before .before .before) in omega arith
-
-write-child-element-write-starts : ChildNeed write-child-lts.Need-element-write-starts
-write-child-element-write-starts t c = child-small t (c .before .before .before .before .before .before .before .before .before .before .before) .0
-
-write-child-cast-insts : ChildNeed write-child-lts.Need-cast-insts
-write-child-cast-insts t c = let z = child-small t (c .before .before .before .before .before .before .before .before .before .before .before) in omega arith
-
-write-child-mul-insts : ChildNeed write-child-lts.Need-mul-insts
-write-child-mul-insts t c = let z = child-small t (c .before .before .before .before .before .before .before .before .before .before .before) in omega arith
-
-write-child-element-write-insts : ChildNeed write-child-lts.Need-element-write-insts
-write-child-element-write-insts t c = child-small t (c .before .before .before .before .before .before .before .before .before .before .before) .0
-
-write-child-add-write-place : ChildNeed write-child-lts.Need-add-write-place
-write-child-add-write-place t c = let z = child-small t (c .before .before .before .before .before .before .before .before .before .before .before) in omega arith
-
-write-child-write-place-requires : ChildNeed write-child-lts.Need-write-place-requires
-write-child-write-place-requires t c κs =
-    let s = c .before .before .before .before .before .before .before .before .before .before .before .before .before .before .before in
-    let w = s .pre .1 in (
-      omega (arith, s .pre .0, w .0 .more),
-      (
-        next-ready (w .0) _ (omega arith) (omega arith) (omega (arith, w .0 .more)) refl (c .before .before .before .before .before .before .before .before .before .before .before .lower .ensures) (c .before .before .before .before .before .before .cost-with .ensures),
-        next-order _ (w .1) (w .0 .able .starts-long) (child-small t (c .before .before .before .before .before .before .before .before .before .before .before .before .before .before .before) .0) (w .0 .begins),
-        w .2,
-        w .3,
-        w .4,
-        w .5,
-        w .6,
-      ),
-    )
-
-write-child-mul-starts-2 : ChildNeed write-child-lts.Need-mul-starts-2
-write-child-mul-starts-2 t c = let z = child-small t (c .before .before .before .before .before .before .before .before .before .before .before .before .before .before .before .before .before .before) in omega arith
-
-write-child-element-write-starts-2 : ChildNeed write-child-lts.Need-element-write-starts-2
-write-child-element-write-starts-2 t c = child-small t (c .before .before .before .before .before .before .before .before .before .before .before .before .before .before .before .before .before .before) .0
-
-write-child-mul-insts-2 : ChildNeed write-child-lts.Need-mul-insts-2
-write-child-mul-insts-2 t c = let z = child-small t (c .before .before .before .before .before .before .before .before .before .before .before .before .before .before .before .before .before .before) in omega arith
-
-write-child-element-write-insts-2 : ChildNeed write-child-lts.Need-element-write-insts-2
-write-child-element-write-insts-2 t c = child-small t (c .before .before .before .before .before .before .before .before .before .before .before .before .before .before .before .before .before .before) .0
+write-child-put-requires : ChildNeed write-child-lts.Need-put-requires
+write-child-put-requires t c κs = let w = c .before .before .before .before .before .before .before .before .before .before .before .before .before .before .before .before .before .before .before .before .before .before .before .before .before .pre .1 in let h = once t (c .before) in (omega arith, omega (arith, w .3, h .2), omega arith)
 
 write-child-mul-lows-2 : ChildNeed write-child-lts.Need-mul-lows-2
-write-child-mul-lows-2 t c = let z = child-small t (c .before .before .before .before .before .before .before .before .before .before .before .before .before .before .before .before .before .before) in omega arith
+write-child-mul-lows-2 t c = let z = child-small t (c .before .before .before .before .before .before .before .before .before .before .before .before .before .before .before .before .before .before .before .before .before .before .before .before .before .before .before .before) in omega arith
 
 write-child-element-write-lows-2 : ChildNeed write-child-lts.Need-element-write-lows-2
-write-child-element-write-lows-2 t c = child-small t (c .before .before .before .before .before .before .before .before .before .before .before .before .before .before .before .before .before .before) .2
+write-child-element-write-lows-2 t c = child-small t (c .before .before .before .before .before .before .before .before .before .before .before .before .before .before .before .before .before .before .before .before .before .before .before .before .before .before .before .before) .2
+
+write-child-add-t74 : ChildNeed write-child-lts.Need-add-t74
+write-child-add-t74 t c = let w = c .before .before .before .before .before .before .before .before .before .before .before .before .before .before .before .before .before .before .before .before .before .before .before .before .before .before .before .before .pre .1 in omega (arith, w .4, w .5)
 
 write-child-same-length : ChildNeed write-child-lts.Need-same-length
 write-child-same-length t c = search needs
 
-write-child-returns : ChildNeed write-child-lts.Need-returns
-write-child-returns t c =
+write-child-returns-3 : ChildNeed write-child-lts.Need-returns-3
+write-child-returns-3 t c =
+    let w = c .before .before .before .before .before .before .before .before .before .before .before .before .before .before .before .before .before .before .before .before .before .before .before .before .before .before .before .before .pre .1 in
+    let l = (lives t (c .before .before .before .before .before .before .before .before .before .before .before .before .before .before .before) ∙ not-false _ (c .before .before .before .before .before .before .before .before .before .before .before .before .before .before .if2 .left)) in
+    let h = once t (c .before .before .before .before) in
+    let ready = next-ready (tries-places (w .0) l) (c .before .before .before .before .before .before .before .before .before .before .before .before .before .before .before .before .before .before .before .before .before .before .before .before .before .before .before .before .args .op + 1) (omega arith) (omega arith) (omega (arith, w .0 .more)) refl (c .before .before .before .before .before .before .before .before .before .before .before .lower .ensures) (c .before .before .before .before .before .before .cost-with .ensures) in
+    let order = next-order _ (w .2) (w .0 .able .starts-long) (child-small t (c .before .before .before .before .before .before .before .before .before .before .before .before .before .before .before .before .before .before .before .before .before .before .before .before .before .before .before .before) .0) (w .0 .begins) in
+    let last = last-less (h .1) in
+    let in-room = h .2 in
+    live-writes _ l
+    (ends-closed (put-length _ _ _ _ (c .before .before .put .ensures)) refl (restored _ _ refl refl) refl
+    (close-goes _ _ _ _ _ _ _ (may-close _ (c .before .before .before .before .before .allowed .ensures) ready) (ready .few) last (next-is ready order last) (h .0) (omega (arith, in-room)) (c .before .before .put .ensures)) (omega (arith, in-room)))
+
+write-child-mul-start-was : ChildNeed write-child-lts.Need-mul-start-was
+write-child-mul-start-was t c = let z = child-small t (c .before .before .before .before .before .before .before .before .before .before .before .before .before .before .before .before .before .before .before .before .before .before .before .before) in omega arith
+
+write-child-element-copy-out-start-was : ChildNeed write-child-lts.Need-element-copy-out-start-was
+write-child-element-copy-out-start-was t c = child-small t (c .before .before .before .before .before .before .before .before .before .before .before .before .before .before .before .before .before .before .before .before .before .before .before .before) .0
+
+write-child-mul-inst-was : ChildNeed write-child-lts.Need-mul-inst-was
+write-child-mul-inst-was t c = let z = child-small t (c .before .before .before .before .before .before .before .before .before .before .before .before .before .before .before .before .before .before .before .before .before .before .before .before .before) in omega arith
+
+write-child-element-copy-out-inst-was : ChildNeed write-child-lts.Need-element-copy-out-inst-was
+write-child-element-copy-out-inst-was t c = child-small t (c .before .before .before .before .before .before .before .before .before .before .before .before .before .before .before .before .before .before .before .before .before .before .before .before .before) .0
+
+write-child-mul-starts : ChildNeed write-child-lts.Need-mul-starts
+write-child-mul-starts t c = let z = child-small t (c .before .before .before .before .before .before .before .before .before .before .before .before .before .before .before .before .before .before .before .before .before .before .before .before .before .before) in omega arith
+
+write-child-element-write-starts : ChildNeed write-child-lts.Need-element-write-starts
+write-child-element-write-starts t c = child-small t (c .before .before .before .before .before .before .before .before .before .before .before .before .before .before .before .before .before .before .before .before .before .before .before .before .before .before) .0
+
+write-child-cast-insts : ChildNeed write-child-lts.Need-cast-insts
+write-child-cast-insts t c = let z = child-small t (c .before .before .before .before .before .before .before .before .before .before .before .before .before .before .before .before .before .before .before .before .before .before .before .before .before .before) in omega arith
+
+write-child-mul-insts : ChildNeed write-child-lts.Need-mul-insts
+write-child-mul-insts t c = let z = child-small t (c .before .before .before .before .before .before .before .before .before .before .before .before .before .before .before .before .before .before .before .before .before .before .before .before .before .before) in omega arith
+
+write-child-element-write-insts : ChildNeed write-child-lts.Need-element-write-insts
+write-child-element-write-insts t c = child-small t (c .before .before .before .before .before .before .before .before .before .before .before .before .before .before .before .before .before .before .before .before .before .before .before .before .before .before) .0
+
+write-child-add-write-place : ChildNeed write-child-lts.Need-add-write-place
+write-child-add-write-place t c = let z = child-small t (c .before .before .before .before .before .before .before .before .before .before .before .before .before .before .before .before .before .before .before .before .before .before .before .before .before .before) in omega arith
+
+write-child-write-place-requires : ChildNeed write-child-lts.Need-write-place-requires
+write-child-write-place-requires t c κs =
+    let s = c .before .before .before .before .before .before .before .before .before .before .before .before .before .before .before .before .before .before .before .before .before .before .before .before .before .before .before .before .before .before in
+    let w = s .pre .1 in
+    let l = (lives t (c .before .before .before .before .before .before .before .before .before .before .before .before .before .before .before .before .before) ∙ not-false _ (c .before .before .before .before .before .before .before .before .before .before .before .before .before .before .before .before .if2 .left)) in (
+      omega (arith, s .pre .0, w .0 .more),
+      (
+        next-ready (tries-places (w .0) l) _ (omega arith) (omega arith) (omega (arith, w .0 .more)) refl (c .before .before .before .before .before .before .before .before .before .before .before .before .before .lower .ensures) (c .before .before .before .before .before .before .before .before .cost-with .ensures),
+        next-order _ (w .2) (w .0 .able .starts-long) (child-small t (c .before .before .before .before .before .before .before .before .before .before .before .before .before .before .before .before .before .before .before .before .before .before .before .before .before .before .before .before .before .before) .0) (w .0 .begins),
+        w .3,
+        w .4,
+        w .5,
+        w .6,
+        w .7,
+      ),
+    )
+
+write-child-mul-starts-2 : ChildNeed write-child-lts.Need-mul-starts-2
+write-child-mul-starts-2 t c = let z = child-small t (c .before .before .before .before .before .before .before .before .before .before .before .before .before .before .before .before .before .before .before .before .before .before .before .before .before .before .before .before .before .before .before .before .before) in omega arith
+
+write-child-element-write-starts-2 : ChildNeed write-child-lts.Need-element-write-starts-2
+write-child-element-write-starts-2 t c = child-small t (c .before .before .before .before .before .before .before .before .before .before .before .before .before .before .before .before .before .before .before .before .before .before .before .before .before .before .before .before .before .before .before .before .before) .0
+
+write-child-mul-insts-2 : ChildNeed write-child-lts.Need-mul-insts-2
+write-child-mul-insts-2 t c = let z = child-small t (c .before .before .before .before .before .before .before .before .before .before .before .before .before .before .before .before .before .before .before .before .before .before .before .before .before .before .before .before .before .before .before .before .before) in omega arith
+
+write-child-element-write-insts-2 : ChildNeed write-child-lts.Need-element-write-insts-2
+write-child-element-write-insts-2 t c = child-small t (c .before .before .before .before .before .before .before .before .before .before .before .before .before .before .before .before .before .before .before .before .before .before .before .before .before .before .before .before .before .before .before .before .before) .0
+
+write-child-mul-lows-3 : ChildNeed write-child-lts.Need-mul-lows-3
+write-child-mul-lows-3 t c = let z = child-small t (c .before .before .before .before .before .before .before .before .before .before .before .before .before .before .before .before .before .before .before .before .before .before .before .before .before .before .before .before .before .before .before .before .before) in omega arith
+
+write-child-element-write-lows-3 : ChildNeed write-child-lts.Need-element-write-lows-3
+write-child-element-write-lows-3 t c = child-small t (c .before .before .before .before .before .before .before .before .before .before .before .before .before .before .before .before .before .before .before .before .before .before .before .before .before .before .before .before .before .before .before .before .before) .2
+
+write-child-same-length-2 : ChildNeed write-child-lts.Need-same-length-2
+write-child-same-length-2 t c = search needs
+
+write-child-returns-4 : ChildNeed write-child-lts.Need-returns-4
+write-child-returns-4 t c =
     let r = c .before .before .write-place .ensures in
-    record {
+    live-writes _ (lives t (c .before .before .before .before .before .before .before .before .before .before .before .before .before .before .before .before .before .before .before .before) ∙ not-false _ (c .before .before .before .before .before .before .before .before .before .before .before .before .before .before .before .before .before .before .before .if2 .left)) (record {
       answers = r .answers;
       bytes = r .bytes;
       inside = r .inside;
       size = r .size;
       same = rows-back _ _ _ _ _ _ _ (r .same);
       same-lows = restored _ _ (r .same-lows) refl;
-    }
+    })
 
 -- ---- write_place
 
@@ -214,7 +280,7 @@ write-place-μ-loop n k t e wire clock from to types costs times delays spacings
     t + 1 - s
 
 abbrev place-callees : ℕ → write-place-lts.Claims
-place-callees t = (allowed-reads.Asked, allowed-reads.Learnt, closed-if-reads.Asked, closed-if-reads.Learnt, put-reads.Asked, put-reads.Learnt, put-split-reads.Asked, put-split-reads.Learnt, first-start-reads.Asked, first-start-reads.Learnt, fits-reads.Asked, fits-reads.Learnt, write-child-below t, write-child.Post)
+place-callees t = (allowed-reads.Asked, allowed-reads.Learnt, closed-if-reads.Asked, closed-if-reads.Learnt, put-reads.Asked, put-reads.Learnt, put-split-reads.Asked, put-split-reads.Learnt, first-start-reads.Asked, first-start-reads.Learnt, write-child-below t, write-child.Post)
 
 abbrev PlaceAt : ((cs : write-place-lts.Claims) → In 5 write-place-kinds.ps → Out 5 write-place-kinds.ps write-place-kinds.r → write-place-lts.InvT-loop2
     → write-place-lts.MeasureT-loop2 → write-place-lts.InvT-loop → write-place-lts.MeasureT-loop → Type 0) → ℕ → Type 0
@@ -231,17 +297,15 @@ from-mark : (t : ℕ) (c : PlaceAt write-place-lts.After-first-start t) (sheet' 
     let p = placing (a .starts .now) (a .insts .now) in
     sheet' ≡ putAll (a .sheet .now) (a .at) (splitMark (a .width) (a .op))
     → writeAt (a .room) (a .width) b (a .claim) (a .n - a .op) p (draft (a .sheet .now) (a .at))
-    ≡ inTurn (writeAt (a .room) (a .width) b (a .claim) (a .n - (a .op + 1))) (liveOnes b p (a .op) (from-start b (c .first-start .result)))
-    (draft sheet' (a .at + markBits + a .width))
+    ≡ inTurn (writeAt (a .room) (a .width) b (a .claim) (a .n - (a .op + 1))) (liveOnes b p (a .op) (from-start b (c .first-start .result))) (draft sheet' (a .at + markBits + a .width))
 from-mark t c sheet' e =
     let s = c .before .before .before .before .before .before .before .before .before .before .before .before .before in
     let a = s .args in
     let b = (boardWith (a .n) (a .k) (a .t) (a .e) (a .wire) (a .clock) (a .from .now) (a .to .now) (a .types .now) (a .costs .now) (a .times .now) (a .delays .now) (a .spacings .now) (a .lasts .now) (a .near .now)) in
     let p = placing (a .starts .now) (a .insts .now) in
     let w = s .pre .1 .0 in
-    let few = op-less w (c .before .before .before .before .before .before .before .before .before .before .if1 .left) in
     split-goes (a .room) (a .width) b (a .claim) p (a .sheet .now) (a .at) (may-close _ (c .before .before .before .before .before .before .before .before .before .before .before .allowed .ensures) w) (w .few) (c .before .before .before .before .before .before .before .before .before .before .if1 .left) (next-is w (s .pre .1 .1) (c .before .before .before .before .before .before .before .before .before .before .if1 .left)) (c .before .before .before .before .before .before .before .before .before .if2 .left) (omega (arith, c .before .before .before .before .before .before .before .before .if4 .left)) e
-    ∙ ap (λ (ps : List Placing). inTurn (writeAt (a .room) (a .width) b (a .claim) (a .n - (a .op + 1))) ps (draft sheet' (a .at + markBits + a .width))) (first-rows b (w .of) p (w .starts-long) (w .insts-long) (a .op) few (c .first-start .result) (c .first-start .ensures))
+    ∙ ap (λ (ps : List Placing). inTurn (writeAt (a .room) (a .width) b (a .claim) (a .n - (a .op + 1))) ps (draft sheet' (a .at + markBits + a .width))) (first-rows b (w .of) p (w .starts-long) (w .insts-long) (a .op) (op-less w (c .before .before .before .before .before .before .before .before .before .before .if1 .left)) (c .first-start .result) (c .first-start .ensures))
 
 -- numbers within their tables, at an option
 place-small : (t : ℕ) (c : PlaceAt write-place-lts.In-loop2 t)
@@ -261,7 +325,7 @@ leads-whole : (t : ℕ) (c : PlaceAt write-place-lts.In-loop2 t)
 leads-whole t c =
     c .before .loop2 .inv .6 .leads ∙ begin-start _ (c .before .before .before .loop .inv .4) (c .before .before .loop-test .taken) ∙ sym (from-mark t (c .before .before .before .before) _ (c .before .before .before .before .before .before .before .before .before .before .put-split .ensures))
 
--- and nothing has changed but the sheet
+-- and nothing has changed but the sheet, which is as long as it was
 whole-same : (t : ℕ) (c : PlaceAt write-place-lts.In-loop2 t)
     → let a = c .before .before .before .before .before .before .before .before .before .before .before .before .before .before .before .before .before .args in
     let w = c .before .loop2 in
@@ -273,15 +337,6 @@ whole-same t c =
 
 whole-size : (t : ℕ) (c : PlaceAt write-place-lts.In-loop2 t) → length (c .before .loop2 .sheet) ≡ length (c .before .before .before .before .before .before .before .before .before .before .before .before .before .before .before .before .before .args .sheet .now)
 whole-size t c = c .before .loop2 .inv .5 ∙ c .before .before .before .loop .inv .3 ∙ split-length _ _ _ _ (c .before .before .before .before .before .before .before .before .before .before .put-split .ensures)
-
--- an option is live exactly where the code's test holds
-lives : (t : ℕ) (c : PlaceAt write-place-lts.After-fits2 t)
-    → let a = c .before .before .before .before .before .before .before .before .before .before .before .before .before .before .before .before .before .before .before .before .before .before .before .before .before .before .args in
-    let w = c .before .before .before .before .before .before .before .before .before .before .loop2 in
-    live (boardWith (a .n) (a .k) (a .t) (a .e) (a .wire) (a .clock) (a .from .now) (a .to .now) (a .types .now) (a .costs .now) (a .times .now) (a .delays .now) (a .spacings .now) (a .lasts .now) (a .near .now)) (put (placing (w .starts) (w .insts)) (a .op) (optionAt (c .before .before .before .before .before .before .before .before .before .before .before .before .loop .s) (w .i))) ≡ c .fits2 .result
-lives t c =
-    let w = c .before .before .before .before .before .before .before .before .before .before .loop2 .inv in
-    fits-in-order (w .6 .able) (w .6 .more) _ _ _ (same-first _ _ _ (w .6 .same) (w .3)) (w .0) (c .before .before .before .before .before .before .before .before .before .loop2-test .taken) (c .fits2 .ensures)
 
 write-place-allowed-requires : PlaceNeed write-place-lts.Need-allowed-requires
 write-place-allowed-requires t c κs = search needs
@@ -359,34 +414,19 @@ write-place-loop2-holds t c =
       record { able = v .4 .able; more = v .4 .more; free = v .4 .free; same = refl; same-lows = refl; leads = refl },
     )
 
-write-place-cast-fits : PlaceNeed write-place-lts.Need-cast-fits
-write-place-cast-fits t c = let z = place-small t (c .before .before .before .before .before .before .before .before) in omega (arith, c .before .before .before .before .before .before .before .before .before .loop2 .inv .1)
-
-write-place-fits-requires : PlaceNeed write-place-lts.Need-fits-requires
-write-place-fits-requires t c κs =
-    let o = c .before .before .before .before .before .before .before .before .before .loop2 .inv .6 in
-    let z = place-small t (c .before .before .before .before .before .before .before .before) in
-    (omega arith, z .0, omega arith, o .able .starts-long, near-leads _ (o .able .of) _ (o .more))
-
 write-place-cast-write-child : PlaceNeed write-place-lts.Need-cast-write-child
-write-place-cast-write-child t c = let z = place-small t (c .before .before .before .before .before .before .before .before .before .before) in omega (arith, c .before .before .before .before .before .before .before .before .before .before .before .loop2 .inv .1)
+write-place-cast-write-child t c = let z = place-small t (c) in omega (arith, c .before .loop2 .inv .1)
 
 write-place-write-child-requires : PlaceNeed write-place-lts.Need-write-child-requires
 write-place-write-child-requires t c κs =
-    let o = c .before .before .before .before .before .before .before .before .before .before .before .before .before .before .before .loop2 .inv in
-    let s = c .before .before .before .before .before .before .before .before .before .before .before .before .before .before .before .before .before .before .before .before .before .before .before .before .before .before .before .before .before .before .before in (
+    let o = c .before .before .before .before .before .loop2 .inv in
+    let s = c .before .before .before .before .before .before .before .before .before .before .before .before .before .before .before .before .before .before .before .before .before in (
       omega (arith, s .pre .0, o .6 .more),
       (
-        record {
-          able = o .6 .able;
-          more = o .6 .more;
-          free = o .6 .free;
-          begins = o .0;
-          unit = c .before .before .before .before .before .before .before .before .before .before .before .before .before .before .loop2-test .taken;
-          lives = lives t (c .before .before .before .before .before) ∙ c .before .before .before .before .if5 .taken;
-        },
-        same-order (whole-same t (c .before .before .before .before .before .before .before .before .before .before .before .before .before .before) .0) (s .pre .1 .1),
-        omega (arith, s .pre .1 .2, whole-size t (c .before .before .before .before .before .before .before .before .before .before .before .before .before .before)),
+        record { able = o .6 .able; more = o .6 .more; free = o .6 .free; begins = o .0; unit = c .before .before .before .before .loop2-test .taken },
+        record { behind = λ h. rw (← same-first _ _ _ (o .6 .same) (o .3)) (ltb-true _ _ h) },
+        same-order (whole-same t (c .before .before .before .before) .0) (s .pre .1 .1),
+        omega (arith, s .pre .1 .2, whole-size t (c .before .before .before .before)),
         s .pre .1 .3,
         o .4,
         s .pre .1 .5,
@@ -401,16 +441,14 @@ write-place-enum-told : PlaceNeed write-place-lts.Need-enum-told
 write-place-enum-told t c = search needs
 
 write-place-same-length-2 : PlaceNeed write-place-lts.Need-same-length-2
-write-place-same-length-2 t c = c .before .before .before .before .write-child .ensures .size ∙ whole-size t (c .before .before .before .before .before .before .before .before .before .before .before .before .before .before .before .before .before .before .before)
+write-place-same-length-2 t c = c .before .before .before .before .write-child .ensures .size ∙ whole-size t (c .before .before .before .before .before .before .before .before .before)
 
 write-place-returns-5 : PlaceNeed write-place-lts.Need-returns-5
 write-place-returns-5 t c =
-    let o = c .before .before .before .before .before .before .before .before .before .before .before .before .before .before .before .before .before .before .before .before .loop2 .inv .6 in
-    let l = lives t (c .before .before .before .before .before .before .before .before .before .before) ∙ c .before .before .before .before .before .before .before .before .before .if5 .taken in
     let r = c .before .before .before .before .write-child .ensures in
     let e = c .enum-told .given .1 in
-    ends-stopped (r .size ∙ whole-size t (c .before .before .before .before .before .before .before .before .before .before .before .before .before .before .before .before .before .before .before)) (r .same ∙ whole-same t (c .before .before .before .before .before .before .before .before .before .before .before .before .before .before .before .before .before .before .before) .0) (r .same-lows ∙ whole-same t (c .before .before .before .before .before .before .before .before .before .before .before .before .before .before .before .before .before .before .before) .1) e
-    (stops-at _ _ (stands-whole o (leads-whole t (c .before .before .before .before .before .before .before .before .before .before .before .before .before .before .before .before .before .before .before))) (c .before .before .before .before .before .before .before .before .before .before .before .before .before .before .before .before .before .before .before .loop2-test .taken) l (refused-draft _ (r .answers) e))
+    ends-stopped (r .size ∙ whole-size t (c .before .before .before .before .before .before .before .before .before)) (r .same ∙ whole-same t (c .before .before .before .before .before .before .before .before .before) .0) (r .same-lows ∙ whole-same t (c .before .before .before .before .before .before .before .before .before) .1) e
+    (stops-option _ _ (stands-whole (c .before .before .before .before .before .before .before .before .before .before .loop2 .inv .6) (leads-whole t (c .before .before .before .before .before .before .before .before .before))) (c .before .before .before .before .before .before .before .before .before .loop2-test .taken) (refused-draft _ (r .answers) e))
 
 write-place-add-i : PlaceNeed write-place-lts.Need-add-i
 write-place-add-i t c = let z = place-small t (c .before .before .before .before .before .before .before .before .before .before) in omega arith
@@ -421,17 +459,15 @@ write-place-loop2-less t c = let z = place-small t (c .before .before .before .b
 write-place-loop2-again : PlaceNeed write-place-lts.Need-loop2-again
 write-place-loop2-again t c =
     let o = c .before .before .before .before .before .before .before .before .before .before .before .loop2 .inv in
-    let l = c .before .before .before .before .before .before .before .before .before .before .loop2-test .taken in (
+    let r = c .before .before .before .before .before .write-child .ensures in
+    let q = c .before .branch .given .1 in (
       o .0,
       o .1,
-      omega arith,
+      (let l = c .before .before .before .before .before .before .before .before .before .before .loop2-test .taken in omega arith),
       o .3,
-      ⊎-elim (λ y. rw (y .15) (y .5 .ensures .inside _ (y .9 .given .1))) (λ y. rw (y .5) (o .4)) (c .if5 .came),
-      ⊎-elim (λ y. rw (y .11) (y .5 .ensures .size ∙ o .5)) (λ y. rw (y .1) (o .5)) (c .if5 .came),
-      ⊎-elim
-          (λ y. after-live _ _ (o .6) l (lives t (c .before) ∙ y .0 .taken) (closed-draft _ (y .5 .ensures .answers) (y .5 .ensures .bytes) (y .9 .given .1)) (y .5 .ensures .same) (y .5 .ensures .same-lows) (y .12) (y .13) (y .14) (λ j. draft (y .11 j) (y .15 j)))
-          (λ y. after-dead _ _ (o .6) l (lives t (c .before) ∙ y .0 .left) (y .2) (y .3) (y .4) (λ j. draft (y .1 j) (y .5 j)))
-          (c .if5 .came),
+      r .inside _ q,
+      r .size ∙ o .5,
+      after-option _ _ (o .6) (c .before .before .before .before .before .before .before .before .before .before .loop2-test .taken) (closed-draft _ (r .answers) (r .bytes) q) (r .same) (r .same-lows),
     )
 
 write-place-add-s : PlaceNeed write-place-lts.Need-add-s
@@ -457,6 +493,10 @@ write-place-returns-6 t c =
 pub +write-child+write-place-spec : {M : Type 1} → statement M
 +write-child+write-place-spec = close μ-write-child μ-write-place (λ t. write-child-lts.spec (child-callees t) (write-child-at t)
     write-child.Post
+    (write-child-in-time-requires t)
+    (write-child-returns t)
+    (write-child-fits-requires t)
+    (write-child-returns-2 t)
     (write-child-mul-y t)
     (write-child-element-copy-out-y t)
     (write-child-cast-y t)
@@ -467,6 +507,14 @@ pub +write-child+write-place-spec : {M : Type 1} → statement M
     (write-child-mul-lows t)
     (write-child-element-write-lows t)
     (write-child-cost-with-requires t)
+    (write-child-allowed-requires t)
+    (write-child-add-if3 t)
+    (write-child-put-requires t)
+    (write-child-mul-lows-2 t)
+    (write-child-element-write-lows-2 t)
+    (write-child-add-t74 t)
+    (write-child-same-length t)
+    (write-child-returns-3 t)
     (write-child-mul-start-was t)
     (write-child-element-copy-out-start-was t)
     (write-child-mul-inst-was t)
@@ -482,10 +530,10 @@ pub +write-child+write-place-spec : {M : Type 1} → statement M
     (write-child-element-write-starts-2 t)
     (write-child-mul-insts-2 t)
     (write-child-element-write-insts-2 t)
-    (write-child-mul-lows-2 t)
-    (write-child-element-write-lows-2 t)
-    (write-child-same-length t)
-    (write-child-returns t))
+    (write-child-mul-lows-3 t)
+    (write-child-element-write-lows-3 t)
+    (write-child-same-length-2 t)
+    (write-child-returns-4 t))
     λ t. write-place-lts.spec (place-callees t) (write-place-at t)
     write-place.Post
     write-place-Inv-loop2
@@ -510,8 +558,6 @@ pub +write-child+write-place-spec : {M : Type 1} → statement M
     (write-place-first-start-requires t)
     (write-place-loop-holds t)
     (write-place-loop2-holds t)
-    (write-place-cast-fits t)
-    (write-place-fits-requires t)
     (write-place-cast-write-child t)
     (write-place-write-child-requires t)
     (write-place-enum-known-branch t)
