@@ -19,7 +19,6 @@ use placing::costing::cost_with;
 use placing::costing::lower;
 use placing::fitting::first_start;
 use placing::fitting::fits;
-use placing::fitting::in_time;
 use rules::model::UNIT_CELLS;
 use sheets::limits::*;
 
@@ -67,9 +66,6 @@ fn write_child<'a>(
         claim (n - (op + 1)) (putRow (placing (now (starts .entry)) (now (insts .entry))) op (optionAt s i)) (draft (now (sheet .entry)) at))
         r (now (sheet .entry)) (now (sheet .exit)) (placing (now (starts .entry)) (now (insts .entry))) (placing (now (starts .exit)) (now (insts .exit))) (now (lows .entry)) (now (lows .exit)) ⌝ }
 {
-    if !in_time(lasts, op, s, i) {
-        return Branch::Closed(at);
-    }
     if !fits(
         from,
         to,

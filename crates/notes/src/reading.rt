@@ -19,8 +19,8 @@ use placing::closing::unplaced;
 use placing::costing::cost_with;
 use placing::costing::lower;
 use placing::fitting::first_start;
-use placing::fitting::fits;
-use placing::fitting::in_time;
+use placing::fitting::free_at;
+use placing::fitting::links_hold;
 use rules::model::UNIT_CELLS;
 use sheets::groups::runs_out;
 use sheets::limits::*;
@@ -133,10 +133,10 @@ fn child<'a>(
         claim left (putRow (placing (now (starts .entry)) (now (insts .entry))) op (optionAt s i)) at)
         r (placing (now (starts .entry)) (now (insts .entry))) (placing (now (starts .exit)) (now (insts .exit))) (now (lows .entry)) (now (lows .exit)) ⌝ }
 {
-    if !in_time(lasts, op, s, i) {
+    if !free_at(spacings, lasts, starts, insts, reach, op, s, i) {
         return Branch::Closed(at);
     }
-    if !fits(
+    if !links_hold(
         from,
         to,
         e,
@@ -144,12 +144,9 @@ fn child<'a>(
         clock,
         times,
         delays,
-        spacings,
-        lasts,
         near,
         starts,
         insts,
-        false,
         reach,
         op,
         s,

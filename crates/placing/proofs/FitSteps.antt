@@ -13,7 +13,7 @@ use Rattle.basics.proofs.CountLaws.{allTo-fewer, allTo-further, allTo-not, anyT
 use Rattle.sheets.specs.Limits.{opCells}
 use Rattle.rules.specs.Rules.{placed, finish, precedes, apart}
 use Rattle.placing.specs.Board.{unit, lastStart, nearOf, linked, Leads}
-use Rattle.placing.specs.Fitting.{inTurnIf, inTurn, pairOk, linkFits, linksFit, shareFits, sharesFit, chainedAt, chained, chainsFit, fits, endOf, firstStart}
+use Rattle.placing.specs.Fitting.{inTurnIf, inTurn, pairOk, linkFits, linksFit, shareFits, sharesFit, chainedAt, chained, chainsFit, freeAt, linksHold, fits, endOf, firstStart}
 
 -- ---- an operation that a link joins to op
 
@@ -215,36 +215,43 @@ module _ (near : List ℕ) (op : ℕ) (leads : Leads near op) where
 
 -- ---- the whole test, where it is decided
 
-module _ (from to : List ℕ) (e wire clock : ℕ) (times delays spacings lasts near starts insts : List ℕ) (settled : Bool) (reach op s i : ℕ) where
+module _ (spacings lasts starts insts : List ℕ) (reach op s i : ℕ) {last : ℕ} (l : last ≡ unit lasts op i) where
+  pub too-late : last < s → false ≡ freeAt spacings lasts starts insts reach op s i
+  too-late h = rw (← l, lt-leb s last h)
+
+  pub by-shares : (last < s → ⊥) → (spacing : ℕ) → spacing ≡ unit spacings op i → {r : Bool} → r ≡ sharesFit spacings starts insts reach s i spacing
+      → r ≡ freeAt spacings lasts starts insts reach op s i
+  by-shares h spacing q e = rw (← l, le-leb s last (omega arith), ← q) e
+
+module _ (from to : List ℕ) (e wire clock : ℕ) (times delays near starts insts : List ℕ) (reach op s i time delay : ℕ)
+    (t : time ≡ unit times op i) (d : delay ≡ unit delays op i) {links : Bool} (k : links ≡ linksFit times delays near starts insts wire clock reach op s time delay) where
+  abbrev held : Bool
+  held = linksHold from to e wire clock times delays near starts insts reach op s i
+
+  pub no-links : links ≡ false → false ≡ held
+  no-links h = rw (← t, ← d, ← k, h)
+
+  module _ (on : links ≡ true) {joined : Bool} (j : joined ≡ chained near starts reach op s) where
+    pub no-chain : joined ≡ false → true ≡ held
+    no-chain h = rw (← t, ← d, ← k, on, ← j, h)
+
+    pub by-chain : joined ≡ true → {r : Bool} → r ≡ chainsFit from to e wire clock times starts insts op s time → r ≡ held
+    by-chain h g = rw (← t, ← d, ← k, on, ← j, h) g
+
+module _ (from to : List ℕ) (e wire clock : ℕ) (times delays spacings lasts near starts insts : List ℕ) (settled : Bool) (reach op s i : ℕ)
+    {free : Bool} (f : free ≡ freeAt spacings lasts starts insts reach op s i) where
   abbrev fit-whole : Bool
   fit-whole = fits from to e wire clock times delays spacings lasts near starts insts settled reach op s i
 
-  module _ {last : ℕ} (l : last ≡ unit lasts op i) where
-    pub no-row : last < s → false ≡ fit-whole
+  pub not-free : free ≡ false → false ≡ fit-whole
+  unfolding fits
+  not-free h = rw (← f, h)
+
+  module _ (on : free ≡ true) where
+    pub no-asking : settled ≡ true → true ≡ fit-whole
     unfolding fits
-    no-row q = rw (← l, lt-leb s last q)
+    no-asking h = rw (← f, on, h)
 
-    module _ (row : s ≤ last) {spacing : ℕ} (p : spacing ≡ unit spacings op i) {shares : Bool} (q : shares ≡ sharesFit spacings starts insts reach s i spacing) where
-      pub no-shares : shares ≡ false → false ≡ fit-whole
-      unfolding fits
-      no-shares h = rw (← p, ← q, h, ← l, le-leb s last row)
-
-      module _ (on : shares ≡ true) where
-        pub no-asking : settled ≡ true → true ≡ fit-whole
-        unfolding fits
-        no-asking h = rw (← p, ← q, on, ← l, le-leb s last row, h)
-
-        module _ (off : settled ≡ false) {time delay : ℕ} (t : time ≡ unit times op i) (d : delay ≡ unit delays op i) {links : Bool}
-            (k : links ≡ linksFit times delays near starts insts wire clock reach op s time delay) where
-          pub no-links : links ≡ false → false ≡ fit-whole
-          unfolding fits
-          no-links h = rw (← p, ← q, on, ← l, le-leb s last row, off, ← t, ← d, ← k, h)
-
-          module _ (in-turn : links ≡ true) {joined : Bool} (j : joined ≡ chained near starts reach op s) where
-            pub no-chain : joined ≡ false → true ≡ fit-whole
-            unfolding fits
-            no-chain h = rw (← p, ← q, on, ← l, le-leb s last row, off, ← t, ← d, ← k, in-turn, ← j, h)
-
-            pub by-chain : joined ≡ true → {r : Bool} → r ≡ chainsFit from to e wire clock times starts insts op s time → r ≡ fit-whole
-            unfolding fits
-            by-chain h g = rw (← p, ← q, on, ← l, le-leb s last row, off, ← t, ← d, ← k, in-turn, ← j, h) g
+    pub by-links : settled ≡ false → {r : Bool} → r ≡ linksHold from to e wire clock times delays near starts insts reach op s i → r ≡ fit-whole
+    unfolding fits
+    by-links h g = rw (← f, on, h) g

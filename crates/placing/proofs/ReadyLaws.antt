@@ -7,7 +7,7 @@ use mathlib.Core.Bool.{Bool, true, false}
 use mathlib.Core.List.{List}
 use native.Mathlib.Omega.{arith}
 use borrow.Author.Tests.{ltb-true}
-use lib.Dec.{leb, ltb}
+use lib.Dec.{ltb}
 use lib.ListN.{set, length-set, replicate}
 use lib.Seq.{set-set, set-getD, getD-set-other}
 use Rattle.basics.specs.Tables.{cell}
@@ -18,7 +18,7 @@ use Rattle.placing.specs.declared.Claim.{Claim}
 use Rattle.placing.specs.Board.{OfJob, unit}
 use Rattle.placing.specs.Closing.{allowed, closable}
 use Rattle.placing.specs.Costing.{costWith}
-use Rattle.placing.specs.Fitting.{fits, firstStart}
+use Rattle.placing.specs.Fitting.{freeAt, linksHold, fits, firstStart}
 use Rattle.placing.specs.Options.{none, put}
 use Rattle.placing.specs.Placing.{Placing, live}
 use Rattle.placing.specs.Ready.{placing, optionAt, Ready, Tries, Places}
@@ -104,11 +104,18 @@ none-ready b of reach few =
       lows-long = refl;
     }
 
--- an option that is not done in time is not live
-pub late-dead : {b : Board} {reach op : ℕ} {p : Placing} {lows : List ℕ} {here s i : ℕ} → Tries b reach op p lows here s i → leb s (unit (b .lasts) op i) ≡ false
-    → live b (put p op (optionAt s i)) ≡ false
-unfolding fits
-late-dead {b} {reach} {op} {p} {lows} {here} {s} {i} w late = fits-ready (w .able) (w .more) (w .free) s i (w .begins) (w .unit) (sym (rw late))
+-- what is not free, or breaks a link, is not live; what is free and keeps its links is
+module _ {b : Board} {reach op : ℕ} {p : Placing} {lows : List ℕ} {here s i : ℕ} (w : Tries b reach op p lows here s i) {free : Bool}
+    (f : free ≡ freeAt (b .spacings) (b .lasts) (p .starts) (p .insts) reach op s i) where
+  pub taken-dead : free ≡ false → live b (put p op (optionAt s i)) ≡ false
+  unfolding fits
+  taken-dead h = fits-ready (w .able) (w .more) (w .free) s i (w .begins) (w .unit) (rw (← f, h))
+
+  pub links-live : free ≡ true → {held : Bool}
+      → held ≡ linksHold (b .from) (b .to) (b .e) (b .wire) (b .clock) (b .times) (b .delays) (b .near) (p .starts) (p .insts) reach op s i
+      → live b (put p op (optionAt s i)) ≡ held
+  unfolding fits
+  links-live h g = fits-ready (w .able) (w .more) (w .free) s i (w .begins) (w .unit) (g ∙ rw (← f, h))
 
 pub tries-places : {b : Board} {reach op : ℕ} {p : Placing} {lows : List ℕ} {here s i : ℕ} → Tries b reach op p lows here s i → live b (put p op (optionAt s i)) ≡ true
     → Places b reach op p lows here s i

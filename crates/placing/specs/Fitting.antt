@@ -62,13 +62,17 @@ chainsFit from to e wire clock times starts insts op s time =
 
 -- ---- the whole: links are not asked where they are settled, because all those linked to op end before step s (`settled-links`)
 
+abbrev pub freeAt : List ℕ → List ℕ → List ℕ → List ℕ → ℕ → ℕ → ℕ → ℕ → Bool
+freeAt spacings lasts starts insts reach op s i = leb s (unit lasts op i) && sharesFit spacings starts insts reach s i (unit spacings op i)
+
+abbrev pub linksHold : List ℕ → List ℕ → ℕ → ℕ → ℕ → List ℕ → List ℕ → List ℕ → List ℕ → List ℕ → ℕ → ℕ → ℕ → ℕ → Bool
+linksHold from to e wire clock times delays near starts insts reach op s i =
+    linksFit times delays near starts insts wire clock reach op s (unit times op i) (unit delays op i)
+    && (not (chained near starts reach op s) || chainsFit from to e wire clock times starts insts op s (unit times op i))
+
 unfoldable pub fits : List ℕ → List ℕ → ℕ → ℕ → ℕ → List ℕ → List ℕ → List ℕ → List ℕ → List ℕ → List ℕ → List ℕ → Bool → ℕ → ℕ → ℕ → ℕ → Bool
 fits from to e wire clock times delays spacings lasts near starts insts settled reach op s i =
-    leb s (unit lasts op i)
-    && sharesFit spacings starts insts reach s i (unit spacings op i)
-    && (settled
-    || (linksFit times delays near starts insts wire clock reach op s (unit times op i) (unit delays op i)
-    && (not (chained near starts reach op s) || chainsFit from to e wire clock times starts insts op s (unit times op i))))
+    freeAt spacings lasts starts insts reach op s i && (settled || linksHold from to e wire clock times delays near starts insts reach op s i)
 
 -- ---- the first start: the latest end of those before op that are linked to it, at least 1
 

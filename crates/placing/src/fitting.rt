@@ -1,13 +1,12 @@
 // One more row, operation op at step s on instance i, against rows placed before, all of them below `reach`.
 ghost use mathlib.Core.Path.{_≡_};
 ghost use Prim.Native.Nat.{_<_, _≤_, _^_, max};
-ghost use lib.Dec.{leb};
 ghost use lib.ListN.{length};
 ghost use Rattle.sheets.specs.Limits.{opCells, instCells};
 ghost use Rattle.rules.specs.Model.{rowTable};
 ghost use Rattle.rules.specs.Rules.{finish as finishOf};
 ghost use Rattle.placing.specs.Board.{unit, nearOf, Leads};
-ghost use Rattle.placing.specs.Fitting.{inTurn, pairOk, linksFit, shareFits, sharesFit, chained as chainedIn, chainsFit, fits as fitsIn, endOf, firstStart};
+ghost use Rattle.placing.specs.Fitting.{inTurn, pairOk, linksFit, shareFits, sharesFit, chained as chainedIn, chainsFit, freeAt, linksHold, fits as fitsIn, endOf, firstStart};
 use crate::boards::NEAR_CELLS;
 use crate::boards::NEAR_TABLE;
 use basics::cell;
@@ -214,13 +213,69 @@ fn chains_fit<'a>(
     chains_ok(from, to, e, wire, clock, &with, &row_times)
 }
 
-// Operation op is done in time if it starts at step s on instance i: what the test below begins with, for loops to ask before they
-// call it.
-pub fn in_time(lasts: &[u16], op: usize, s: u16, i: usize) -> bool
-    requires { ⌜ (op < opCells) × (i < 2 ^ 16) ⌝ }
-    ensures { λ r. ⌜ r ≡ leb s (unit (now (lasts .entry)) op i) ⌝ }
+// Operation op is done in time if it starts at step s on instance i, and the instance is free then.
+pub fn free_at<'a>(
+    spacings: &'a [u16],
+    lasts: &'a [u16],
+    starts: &'a [u16; OP_CELLS],
+    insts: &'a [u16; OP_CELLS],
+    reach: usize,
+    op: usize,
+    s: u16,
+    i: usize,
+) -> bool
+    requires { ⌜ (reach ≤ opCells) × (op < opCells) × (i < 2 ^ 16) ⌝ }
+    ensures { λ r. ⌜ r ≡ freeAt (now (spacings .entry)) (now (lasts .entry)) (now (starts .entry)) (now (insts .entry)) reach op s i ⌝ }
 {
-    s <= unit_at(lasts, op, i)
+    if unit_at(lasts, op, i) < s {
+        return false;
+    }
+    let spacing = unit_at(spacings, op, i);
+    shares_fit(spacings, starts, insts, reach, s, i, spacing)
+}
+
+// Precedence and chains hold if operation op starts at step s on instance i.
+pub fn links_hold<'a>(
+    from: &'a [u16],
+    to: &'a [u16],
+    e: u16,
+    wire: u16,
+    clock: u16,
+    times: &'a [u16],
+    delays: &'a [u16],
+    near: &'a [u16; NEAR_TABLE],
+    starts: &'a [u16; OP_CELLS],
+    insts: &'a [u16; OP_CELLS],
+    reach: usize,
+    op: usize,
+    s: u16,
+    i: usize,
+) -> bool
+    requires { ⌜ (reach ≤ opCells) × (op < opCells) × (i < 2 ^ 16) × (length (now starts) ≡ opCells) × Leads (now near) op ⌝ }
+    ensures { λ r. ⌜ r ≡ linksHold (now (from .entry)) (now (to .entry)) e wire clock (now (times .entry)) (now (delays .entry)) (now (near .entry)) (now (starts .entry)) (now (insts .entry)) reach op s i ⌝ }
+{
+    let time = unit_at(times, op, i);
+    let delay = unit_at(delays, op, i);
+    if !links_fit(
+        times,
+        delays,
+        near,
+        starts,
+        insts,
+        wire,
+        clock,
+        reach,
+        op,
+        s,
+        time,
+        delay,
+    ) {
+        return false;
+    }
+    if !chained(near, starts, reach, op, s) {
+        return true;
+    }
+    chains_fit(from, to, e, wire, clock, times, starts, insts, op, s, time)
 }
 
 // Operation op can be placed at step s on instance i. Where its links are settled, because those that they join to it end before
@@ -247,38 +302,28 @@ pub fn fits<'a>(
     requires { ⌜ (reach ≤ opCells) × (op < opCells) × (i < 2 ^ 16) × (length (now starts) ≡ opCells) × Leads (now near) op ⌝ }
     ensures { λ r. ⌜ r ≡ fitsIn (now (from .entry)) (now (to .entry)) e wire clock (now (times .entry)) (now (delays .entry)) (now (spacings .entry)) (now (lasts .entry)) (now (near .entry)) (now (starts .entry)) (now (insts .entry)) settled reach op s i ⌝ }
 {
-    if unit_at(lasts, op, i) < s {
-        return false;
-    }
-    let spacing = unit_at(spacings, op, i);
-    if !shares_fit(spacings, starts, insts, reach, s, i, spacing) {
+    if !free_at(spacings, lasts, starts, insts, reach, op, s, i) {
         return false;
     }
     if settled {
         return true;
     }
-    let time = unit_at(times, op, i);
-    let delay = unit_at(delays, op, i);
-    if !links_fit(
+    links_hold(
+        from,
+        to,
+        e,
+        wire,
+        clock,
         times,
         delays,
         near,
         starts,
         insts,
-        wire,
-        clock,
         reach,
         op,
         s,
-        time,
-        delay,
-    ) {
-        return false;
-    }
-    if !chained(near, starts, reach, op, s) {
-        return true;
-    }
-    chains_fit(from, to, e, wire, clock, times, starts, insts, op, s, time)
+        i,
+    )
 }
 
 // The later of two steps.

@@ -20,7 +20,7 @@ use Rattle.placing.specs.Placing.{Placing, live}
 use Rattle.placing.specs.Ready.{boardWith, placing, optionAt}
 use Rattle.placing.proofs.BoardLaws.{few-insts, few-ops, few-steps, near-leads, type-small}
 use Rattle.placing.proofs.RowLaws.{row, from-start, first-positive, same-first, first-rows}
-use Rattle.placing.proofs.ReadyLaws.{restored, rows-back, may-close, fits-settled, next-ready, late-dead, tries-places}
+use Rattle.placing.proofs.ReadyLaws.{restored, rows-back, may-close, fits-settled, next-ready, tries-places}
 use Rattle.placing.proofs.TurnLaws.{Stands, stands-whole, after-option, stops-option, stands-end, begin-start, next-start}
 use Rattle.notes.specs.NoteSheet.{markBits, splitMark}
 use Rattle.notes.proofs.ReadLaws.{three-hold}
@@ -41,7 +41,6 @@ use Rattle.placing.proofs.costing.cost_with.Reads as cost-with-reads
 use Rattle.placing.proofs.costing.lower.Reads as lower-reads
 use Rattle.placing.proofs.fitting.first_start.Reads as first-start-reads
 use Rattle.placing.proofs.fitting.fits.Reads as fits-reads
-use Rattle.placing.proofs.fitting.in_time.Reads as in-time-reads
 use Rattle.house.proofs.places.+write_child+write_place.{statement}
 use Rattle.house.proofs.places.+write_child+write_place.Tie.{close}
 
@@ -66,7 +65,7 @@ write-place-below t = and 5 write-place-kinds.ps (falls 5 write-place-kinds.ps _
 -- ---- write_child
 
 abbrev child-callees : ℕ → write-child-lts.Claims
-child-callees t = (in-time-reads.Asked, in-time-reads.Learnt, fits-reads.Asked, fits-reads.Learnt, lower-reads.Asked, lower-reads.Learnt, cost-with-reads.Asked, cost-with-reads.Learnt, allowed-reads.Asked, allowed-reads.Learnt, put-reads.Asked, put-reads.Learnt, write-place-below t, write-place.Post)
+child-callees t = (fits-reads.Asked, fits-reads.Learnt, lower-reads.Asked, lower-reads.Learnt, cost-with-reads.Asked, cost-with-reads.Learnt, allowed-reads.Asked, allowed-reads.Learnt, put-reads.Asked, put-reads.Learnt, write-place-below t, write-place.Post)
 
 -- a place in the code at every measure t, and a need there
 abbrev ChildAt : ((cs : write-child-lts.Claims) → In 5 write-child-kinds.ps → Out 5 write-child-kinds.ps write-child-kinds.r → Type 0) → ℕ → Type 0
@@ -86,89 +85,83 @@ child-small t c =
 
 -- the option is live exactly where the code's test holds
 lives : (t : ℕ) (c : ChildAt write-child-lts.After-fits2 t)
-    → let a = c .before .before .before .before .before .before .before .before .before .before .before .before .before .args in
+    → let a = c .before .before .before .before .before .before .before .before .before .before .args in
     live (boardWith (a .n) (a .k) (a .t) (a .e) (a .wire) (a .clock) (a .from .now) (a .to .now) (a .types .now) (a .costs .now) (a .times .now) (a .delays .now) (a .spacings .now) (a .lasts .now) (a .near .now)) (put (placing (a .starts .now) (a .insts .now)) (a .op) (optionAt (a .s) (a .i))) ≡ c .fits2 .result
 lives t c =
-    let w = c .before .before .before .before .before .before .before .before .before .before .before .before .before .pre .1 in
+    let w = c .before .before .before .before .before .before .before .before .before .before .pre .1 in
     fits-settled (w .0 .able) (w .0 .more) _ _ _ (w .1 .behind) (w .0 .begins) (w .0 .unit) (c .fits2 .ensures)
 
 -- a child that is closed at once
-once : (t : ℕ) (c : ChildAt write-child-lts.Then3 t) → let a = c .before .before .before .before .before .before .before .before .before .before .before .before .before .before .before .before .before .before .before .before .before .before .before .before .args in (c .before .allowed .result ≡ true) × (a .op + 1 < a .n) × (a .at < a .room)
+once : (t : ℕ) (c : ChildAt write-child-lts.Then2 t) → let a = c .before .before .before .before .before .before .before .before .before .before .before .before .before .before .before .before .before .before .before .before .before .args in (c .before .allowed .result ≡ true) × (a .op + 1 < a .n) × (a .at < a .room)
 once t c =
-    let a = c .before .before .before .before .before .before .before .before .before .before .before .before .before .before .before .before .before .before .before .before .before .before .before .before .args in
-    let h = three-hold (c .before .allowed .result) (ltb (a .op + 1) (a .n)) (ltb (a .at) (a .room)) (c .if3 .taken) in
+    let a = c .before .before .before .before .before .before .before .before .before .before .before .before .before .before .before .before .before .before .before .before .before .args in
+    let h = three-hold (c .before .allowed .result) (ltb (a .op + 1) (a .n)) (ltb (a .at) (a .room)) (c .if2 .taken) in
     (h .0, ltb-true (a .op + 1) (a .n) (h .1), ltb-true (a .at) (a .room) (h .2))
 
-write-child-in-time-requires : ChildNeed write-child-lts.Need-in-time-requires
-write-child-in-time-requires t c κs = let z = child-small t (c .before .before) in (z .0, omega arith)
+write-child-fits-requires : ChildNeed write-child-lts.Need-fits-requires
+write-child-fits-requires t c κs = let w = c .before .before .before .before .before .before .before .before .before .pre .1 .0 in let z = child-small t (c .before .before .before .before .before .before .before .before .before) in (omega arith, z .0, omega arith, w .able .starts-long, near-leads _ (w .able .of) _ (w .more))
 
 write-child-returns : ChildNeed write-child-lts.Need-returns
-write-child-returns t c = dead-writes _ (late-dead (c .before .before .before .before .pre .1 .0) (sym (c .before .in-time .ensures) ∙ not-true _ (c .if1 .taken))) (c .before .before .before .before .pre .1 .5)
-
-write-child-fits-requires : ChildNeed write-child-lts.Need-fits-requires
-write-child-fits-requires t c κs = let w = c .before .before .before .before .before .before .before .before .before .before .before .before .pre .1 .0 in let z = child-small t (c .before .before .before .before .before .before .before .before .before .before .before .before) in (omega arith, z .0, omega arith, w .able .starts-long, near-leads _ (w .able .of) _ (w .more))
-
-write-child-returns-2 : ChildNeed write-child-lts.Need-returns-2
-write-child-returns-2 t c = dead-writes _ (lives t (c .before) ∙ not-true _ (c .if2 .taken)) (c .before .before .before .before .before .before .before .before .before .before .before .before .before .before .pre .1 .5)
+write-child-returns t c = dead-writes _ (lives t (c .before) ∙ not-true _ (c .if1 .taken)) (c .before .before .before .before .before .before .before .before .before .before .before .pre .1 .5)
 
 write-child-mul-y : ChildNeed write-child-lts.Need-mul-y
-write-child-mul-y t c = let z = child-small t (c .before .before .before .before .before .before .before .before .before .before .before .before .before .before) in omega arith
+write-child-mul-y t c = let z = child-small t (c .before .before .before .before .before .before .before .before .before .before .before) in omega arith
 
 write-child-element-copy-out-y : ChildNeed write-child-lts.Need-element-copy-out-y
-write-child-element-copy-out-y t c = child-small t (c .before .before .before .before .before .before .before .before .before .before .before .before .before .before) .1
+write-child-element-copy-out-y t c = child-small t (c .before .before .before .before .before .before .before .before .before .before .before) .1
 
 write-child-cast-y : ChildNeed write-child-lts.Need-cast-y
-write-child-cast-y t c = let z = child-small t (c .before .before .before .before .before .before .before .before .before .before .before .before .before .before .before) in omega arith
+write-child-cast-y t c = let z = child-small t (c .before .before .before .before .before .before .before .before .before .before .before .before) in omega arith
 
 write-child-mul-low : ChildNeed write-child-lts.Need-mul-low
-write-child-mul-low t c = let z = child-small t (c .before .before .before .before .before .before .before .before .before .before .before .before .before .before .before) in omega arith
+write-child-mul-low t c = let z = child-small t (c .before .before .before .before .before .before .before .before .before .before .before .before) in omega arith
 
 write-child-element-copy-out-low : ChildNeed write-child-lts.Need-element-copy-out-low
-write-child-element-copy-out-low t c = child-small t (c .before .before .before .before .before .before .before .before .before .before .before .before .before .before .before) .2
+write-child-element-copy-out-low t c = child-small t (c .before .before .before .before .before .before .before .before .before .before .before .before) .2
 
 write-child-cast-lower : ChildNeed write-child-lts.Need-cast-lower
-write-child-cast-lower t c = let z = child-small t (c .before .before .before .before .before .before .before .before .before .before .before .before .before .before .before .before) in omega arith
+write-child-cast-lower t c = let z = child-small t (c .before .before .before .before .before .before .before .before .before .before .before .before .before) in omega arith
 
 write-child-lower-requires : ChildNeed write-child-lts.Need-lower-requires
 write-child-lower-requires t c κs = search needs
 
 write-child-mul-lows : ChildNeed write-child-lts.Need-mul-lows
-write-child-mul-lows t c = let z = child-small t (c .before .before .before .before .before .before .before .before .before .before .before .before .before .before .before .before .before) in omega arith
+write-child-mul-lows t c = let z = child-small t (c .before .before .before .before .before .before .before .before .before .before .before .before .before .before) in omega arith
 
 write-child-element-write-lows : ChildNeed write-child-lts.Need-element-write-lows
-write-child-element-write-lows t c = child-small t (c .before .before .before .before .before .before .before .before .before .before .before .before .before .before .before .before .before) .2
+write-child-element-write-lows t c = child-small t (c .before .before .before .before .before .before .before .before .before .before .before .before .before .before) .2
 
 write-child-cost-with-requires : ChildNeed write-child-lts.Need-cost-with-requires
-write-child-cost-with-requires t c κs = child-small t (c .before .before .before .before .before .before .before .before .before .before .before .before .before .before .before .before .before .before .before .before .before) .3
+write-child-cost-with-requires t c κs = child-small t (c .before .before .before .before .before .before .before .before .before .before .before .before .before .before .before .before .before .before) .3
 
 write-child-allowed-requires : ChildNeed write-child-lts.Need-allowed-requires
 write-child-allowed-requires t c κs = search needs
 
-write-child-add-if3 : ChildNeed write-child-lts.Need-add-if3
-write-child-add-if3 t c = let z = child-small t (c .before .before .before .before .before .before .before .before .before .before .before .before .before .before .before .before .before .before .before .before .before .before .before) in omega arith
+write-child-add-if2 : ChildNeed write-child-lts.Need-add-if2
+write-child-add-if2 t c = let z = child-small t (c .before .before .before .before .before .before .before .before .before .before .before .before .before .before .before .before .before .before .before .before) in omega arith
 
 write-child-put-requires : ChildNeed write-child-lts.Need-put-requires
-write-child-put-requires t c κs = let w = c .before .before .before .before .before .before .before .before .before .before .before .before .before .before .before .before .before .before .before .before .before .before .before .before .before .pre .1 in let h = once t (c .before) in (omega arith, omega (arith, w .3, h .2), omega arith)
+write-child-put-requires t c κs = let w = c .before .before .before .before .before .before .before .before .before .before .before .before .before .before .before .before .before .before .before .before .before .before .pre .1 in let h = once t (c .before) in (omega arith, omega (arith, w .3, h .2), omega arith)
 
 write-child-mul-lows-2 : ChildNeed write-child-lts.Need-mul-lows-2
-write-child-mul-lows-2 t c = let z = child-small t (c .before .before .before .before .before .before .before .before .before .before .before .before .before .before .before .before .before .before .before .before .before .before .before .before .before .before .before .before) in omega arith
+write-child-mul-lows-2 t c = let z = child-small t (c .before .before .before .before .before .before .before .before .before .before .before .before .before .before .before .before .before .before .before .before .before .before .before .before .before) in omega arith
 
 write-child-element-write-lows-2 : ChildNeed write-child-lts.Need-element-write-lows-2
-write-child-element-write-lows-2 t c = child-small t (c .before .before .before .before .before .before .before .before .before .before .before .before .before .before .before .before .before .before .before .before .before .before .before .before .before .before .before .before) .2
+write-child-element-write-lows-2 t c = child-small t (c .before .before .before .before .before .before .before .before .before .before .before .before .before .before .before .before .before .before .before .before .before .before .before .before .before) .2
 
-write-child-add-t74 : ChildNeed write-child-lts.Need-add-t74
-write-child-add-t74 t c = let w = c .before .before .before .before .before .before .before .before .before .before .before .before .before .before .before .before .before .before .before .before .before .before .before .before .before .before .before .before .pre .1 in omega (arith, w .4, w .5)
+write-child-add-t72 : ChildNeed write-child-lts.Need-add-t72
+write-child-add-t72 t c = let w = c .before .before .before .before .before .before .before .before .before .before .before .before .before .before .before .before .before .before .before .before .before .before .before .before .before .pre .1 in omega (arith, w .4, w .5)
 
 write-child-same-length : ChildNeed write-child-lts.Need-same-length
 write-child-same-length t c = search needs
 
-write-child-returns-3 : ChildNeed write-child-lts.Need-returns-3
-write-child-returns-3 t c =
-    let w = c .before .before .before .before .before .before .before .before .before .before .before .before .before .before .before .before .before .before .before .before .before .before .before .before .before .before .before .before .pre .1 in
-    let l = (lives t (c .before .before .before .before .before .before .before .before .before .before .before .before .before .before .before) ∙ not-false _ (c .before .before .before .before .before .before .before .before .before .before .before .before .before .before .if2 .left)) in
+write-child-returns-2 : ChildNeed write-child-lts.Need-returns-2
+write-child-returns-2 t c =
+    let w = c .before .before .before .before .before .before .before .before .before .before .before .before .before .before .before .before .before .before .before .before .before .before .before .before .before .pre .1 in
+    let l = (lives t (c .before .before .before .before .before .before .before .before .before .before .before .before .before .before .before) ∙ not-false _ (c .before .before .before .before .before .before .before .before .before .before .before .before .before .before .if1 .left)) in
     let h = once t (c .before .before .before .before) in
-    let ready = next-ready (tries-places (w .0) l) (c .before .before .before .before .before .before .before .before .before .before .before .before .before .before .before .before .before .before .before .before .before .before .before .before .before .before .before .before .args .op + 1) (omega arith) (omega arith) (omega (arith, w .0 .more)) refl (c .before .before .before .before .before .before .before .before .before .before .before .lower .ensures) (c .before .before .before .before .before .before .cost-with .ensures) in
-    let order = next-order _ (w .2) (w .0 .able .starts-long) (child-small t (c .before .before .before .before .before .before .before .before .before .before .before .before .before .before .before .before .before .before .before .before .before .before .before .before .before .before .before .before) .0) (w .0 .begins) in
+    let ready = next-ready (tries-places (w .0) l) (c .before .before .before .before .before .before .before .before .before .before .before .before .before .before .before .before .before .before .before .before .before .before .before .before .before .args .op + 1) (omega arith) (omega arith) (omega (arith, w .0 .more)) refl (c .before .before .before .before .before .before .before .before .before .before .before .lower .ensures) (c .before .before .before .before .before .before .cost-with .ensures) in
+    let order = next-order _ (w .2) (w .0 .able .starts-long) (child-small t (c .before .before .before .before .before .before .before .before .before .before .before .before .before .before .before .before .before .before .before .before .before .before .before .before .before) .0) (w .0 .begins) in
     let last = last-less (h .1) in
     let in-room = h .2 in
     live-writes _ l
@@ -176,44 +169,44 @@ write-child-returns-3 t c =
     (close-goes _ _ _ _ _ _ _ (may-close _ (c .before .before .before .before .before .allowed .ensures) ready) (ready .few) last (next-is ready order last) (h .0) (omega (arith, in-room)) (c .before .before .put .ensures)) (omega (arith, in-room)))
 
 write-child-mul-start-was : ChildNeed write-child-lts.Need-mul-start-was
-write-child-mul-start-was t c = let z = child-small t (c .before .before .before .before .before .before .before .before .before .before .before .before .before .before .before .before .before .before .before .before .before .before .before .before) in omega arith
+write-child-mul-start-was t c = let z = child-small t (c .before .before .before .before .before .before .before .before .before .before .before .before .before .before .before .before .before .before .before .before .before) in omega arith
 
 write-child-element-copy-out-start-was : ChildNeed write-child-lts.Need-element-copy-out-start-was
-write-child-element-copy-out-start-was t c = child-small t (c .before .before .before .before .before .before .before .before .before .before .before .before .before .before .before .before .before .before .before .before .before .before .before .before) .0
+write-child-element-copy-out-start-was t c = child-small t (c .before .before .before .before .before .before .before .before .before .before .before .before .before .before .before .before .before .before .before .before .before) .0
 
 write-child-mul-inst-was : ChildNeed write-child-lts.Need-mul-inst-was
-write-child-mul-inst-was t c = let z = child-small t (c .before .before .before .before .before .before .before .before .before .before .before .before .before .before .before .before .before .before .before .before .before .before .before .before .before) in omega arith
+write-child-mul-inst-was t c = let z = child-small t (c .before .before .before .before .before .before .before .before .before .before .before .before .before .before .before .before .before .before .before .before .before .before) in omega arith
 
 write-child-element-copy-out-inst-was : ChildNeed write-child-lts.Need-element-copy-out-inst-was
-write-child-element-copy-out-inst-was t c = child-small t (c .before .before .before .before .before .before .before .before .before .before .before .before .before .before .before .before .before .before .before .before .before .before .before .before .before) .0
+write-child-element-copy-out-inst-was t c = child-small t (c .before .before .before .before .before .before .before .before .before .before .before .before .before .before .before .before .before .before .before .before .before .before) .0
 
 write-child-mul-starts : ChildNeed write-child-lts.Need-mul-starts
-write-child-mul-starts t c = let z = child-small t (c .before .before .before .before .before .before .before .before .before .before .before .before .before .before .before .before .before .before .before .before .before .before .before .before .before .before) in omega arith
+write-child-mul-starts t c = let z = child-small t (c .before .before .before .before .before .before .before .before .before .before .before .before .before .before .before .before .before .before .before .before .before .before .before) in omega arith
 
 write-child-element-write-starts : ChildNeed write-child-lts.Need-element-write-starts
-write-child-element-write-starts t c = child-small t (c .before .before .before .before .before .before .before .before .before .before .before .before .before .before .before .before .before .before .before .before .before .before .before .before .before .before) .0
+write-child-element-write-starts t c = child-small t (c .before .before .before .before .before .before .before .before .before .before .before .before .before .before .before .before .before .before .before .before .before .before .before) .0
 
 write-child-cast-insts : ChildNeed write-child-lts.Need-cast-insts
-write-child-cast-insts t c = let z = child-small t (c .before .before .before .before .before .before .before .before .before .before .before .before .before .before .before .before .before .before .before .before .before .before .before .before .before .before) in omega arith
+write-child-cast-insts t c = let z = child-small t (c .before .before .before .before .before .before .before .before .before .before .before .before .before .before .before .before .before .before .before .before .before .before .before) in omega arith
 
 write-child-mul-insts : ChildNeed write-child-lts.Need-mul-insts
-write-child-mul-insts t c = let z = child-small t (c .before .before .before .before .before .before .before .before .before .before .before .before .before .before .before .before .before .before .before .before .before .before .before .before .before .before) in omega arith
+write-child-mul-insts t c = let z = child-small t (c .before .before .before .before .before .before .before .before .before .before .before .before .before .before .before .before .before .before .before .before .before .before .before) in omega arith
 
 write-child-element-write-insts : ChildNeed write-child-lts.Need-element-write-insts
-write-child-element-write-insts t c = child-small t (c .before .before .before .before .before .before .before .before .before .before .before .before .before .before .before .before .before .before .before .before .before .before .before .before .before .before) .0
+write-child-element-write-insts t c = child-small t (c .before .before .before .before .before .before .before .before .before .before .before .before .before .before .before .before .before .before .before .before .before .before .before) .0
 
 write-child-add-write-place : ChildNeed write-child-lts.Need-add-write-place
-write-child-add-write-place t c = let z = child-small t (c .before .before .before .before .before .before .before .before .before .before .before .before .before .before .before .before .before .before .before .before .before .before .before .before .before .before) in omega arith
+write-child-add-write-place t c = let z = child-small t (c .before .before .before .before .before .before .before .before .before .before .before .before .before .before .before .before .before .before .before .before .before .before .before) in omega arith
 
 write-child-write-place-requires : ChildNeed write-child-lts.Need-write-place-requires
 write-child-write-place-requires t c κs =
-    let s = c .before .before .before .before .before .before .before .before .before .before .before .before .before .before .before .before .before .before .before .before .before .before .before .before .before .before .before .before .before .before in
+    let s = c .before .before .before .before .before .before .before .before .before .before .before .before .before .before .before .before .before .before .before .before .before .before .before .before .before .before .before in
     let w = s .pre .1 in
-    let l = (lives t (c .before .before .before .before .before .before .before .before .before .before .before .before .before .before .before .before .before) ∙ not-false _ (c .before .before .before .before .before .before .before .before .before .before .before .before .before .before .before .before .if2 .left)) in (
+    let l = (lives t (c .before .before .before .before .before .before .before .before .before .before .before .before .before .before .before .before .before) ∙ not-false _ (c .before .before .before .before .before .before .before .before .before .before .before .before .before .before .before .before .if1 .left)) in (
       omega (arith, s .pre .0, w .0 .more),
       (
         next-ready (tries-places (w .0) l) _ (omega arith) (omega arith) (omega (arith, w .0 .more)) refl (c .before .before .before .before .before .before .before .before .before .before .before .before .before .lower .ensures) (c .before .before .before .before .before .before .before .before .cost-with .ensures),
-        next-order _ (w .2) (w .0 .able .starts-long) (child-small t (c .before .before .before .before .before .before .before .before .before .before .before .before .before .before .before .before .before .before .before .before .before .before .before .before .before .before .before .before .before .before) .0) (w .0 .begins),
+        next-order _ (w .2) (w .0 .able .starts-long) (child-small t (c .before .before .before .before .before .before .before .before .before .before .before .before .before .before .before .before .before .before .before .before .before .before .before .before .before .before .before) .0) (w .0 .begins),
         w .3,
         w .4,
         w .5,
@@ -223,30 +216,30 @@ write-child-write-place-requires t c κs =
     )
 
 write-child-mul-starts-2 : ChildNeed write-child-lts.Need-mul-starts-2
-write-child-mul-starts-2 t c = let z = child-small t (c .before .before .before .before .before .before .before .before .before .before .before .before .before .before .before .before .before .before .before .before .before .before .before .before .before .before .before .before .before .before .before .before .before) in omega arith
+write-child-mul-starts-2 t c = let z = child-small t (c .before .before .before .before .before .before .before .before .before .before .before .before .before .before .before .before .before .before .before .before .before .before .before .before .before .before .before .before .before .before) in omega arith
 
 write-child-element-write-starts-2 : ChildNeed write-child-lts.Need-element-write-starts-2
-write-child-element-write-starts-2 t c = child-small t (c .before .before .before .before .before .before .before .before .before .before .before .before .before .before .before .before .before .before .before .before .before .before .before .before .before .before .before .before .before .before .before .before .before) .0
+write-child-element-write-starts-2 t c = child-small t (c .before .before .before .before .before .before .before .before .before .before .before .before .before .before .before .before .before .before .before .before .before .before .before .before .before .before .before .before .before .before) .0
 
 write-child-mul-insts-2 : ChildNeed write-child-lts.Need-mul-insts-2
-write-child-mul-insts-2 t c = let z = child-small t (c .before .before .before .before .before .before .before .before .before .before .before .before .before .before .before .before .before .before .before .before .before .before .before .before .before .before .before .before .before .before .before .before .before) in omega arith
+write-child-mul-insts-2 t c = let z = child-small t (c .before .before .before .before .before .before .before .before .before .before .before .before .before .before .before .before .before .before .before .before .before .before .before .before .before .before .before .before .before .before) in omega arith
 
 write-child-element-write-insts-2 : ChildNeed write-child-lts.Need-element-write-insts-2
-write-child-element-write-insts-2 t c = child-small t (c .before .before .before .before .before .before .before .before .before .before .before .before .before .before .before .before .before .before .before .before .before .before .before .before .before .before .before .before .before .before .before .before .before) .0
+write-child-element-write-insts-2 t c = child-small t (c .before .before .before .before .before .before .before .before .before .before .before .before .before .before .before .before .before .before .before .before .before .before .before .before .before .before .before .before .before .before) .0
 
 write-child-mul-lows-3 : ChildNeed write-child-lts.Need-mul-lows-3
-write-child-mul-lows-3 t c = let z = child-small t (c .before .before .before .before .before .before .before .before .before .before .before .before .before .before .before .before .before .before .before .before .before .before .before .before .before .before .before .before .before .before .before .before .before) in omega arith
+write-child-mul-lows-3 t c = let z = child-small t (c .before .before .before .before .before .before .before .before .before .before .before .before .before .before .before .before .before .before .before .before .before .before .before .before .before .before .before .before .before .before) in omega arith
 
 write-child-element-write-lows-3 : ChildNeed write-child-lts.Need-element-write-lows-3
-write-child-element-write-lows-3 t c = child-small t (c .before .before .before .before .before .before .before .before .before .before .before .before .before .before .before .before .before .before .before .before .before .before .before .before .before .before .before .before .before .before .before .before .before) .2
+write-child-element-write-lows-3 t c = child-small t (c .before .before .before .before .before .before .before .before .before .before .before .before .before .before .before .before .before .before .before .before .before .before .before .before .before .before .before .before .before .before) .2
 
 write-child-same-length-2 : ChildNeed write-child-lts.Need-same-length-2
 write-child-same-length-2 t c = search needs
 
-write-child-returns-4 : ChildNeed write-child-lts.Need-returns-4
-write-child-returns-4 t c =
+write-child-returns-3 : ChildNeed write-child-lts.Need-returns-3
+write-child-returns-3 t c =
     let r = c .before .before .write-place .ensures in
-    live-writes _ (lives t (c .before .before .before .before .before .before .before .before .before .before .before .before .before .before .before .before .before .before .before .before) ∙ not-false _ (c .before .before .before .before .before .before .before .before .before .before .before .before .before .before .before .before .before .before .before .if2 .left)) (record {
+    live-writes _ (lives t (c .before .before .before .before .before .before .before .before .before .before .before .before .before .before .before .before .before .before .before .before) ∙ not-false _ (c .before .before .before .before .before .before .before .before .before .before .before .before .before .before .before .before .before .before .before .if1 .left)) (record {
       answers = r .answers;
       bytes = r .bytes;
       inside = r .inside;
@@ -493,10 +486,8 @@ write-place-returns-6 t c =
 pub +write-child+write-place-spec : {M : Type 1} → statement M
 +write-child+write-place-spec = close μ-write-child μ-write-place (λ t. write-child-lts.spec (child-callees t) (write-child-at t)
     write-child.Post
-    (write-child-in-time-requires t)
-    (write-child-returns t)
     (write-child-fits-requires t)
-    (write-child-returns-2 t)
+    (write-child-returns t)
     (write-child-mul-y t)
     (write-child-element-copy-out-y t)
     (write-child-cast-y t)
@@ -508,13 +499,13 @@ pub +write-child+write-place-spec : {M : Type 1} → statement M
     (write-child-element-write-lows t)
     (write-child-cost-with-requires t)
     (write-child-allowed-requires t)
-    (write-child-add-if3 t)
+    (write-child-add-if2 t)
     (write-child-put-requires t)
     (write-child-mul-lows-2 t)
     (write-child-element-write-lows-2 t)
-    (write-child-add-t74 t)
+    (write-child-add-t72 t)
     (write-child-same-length t)
-    (write-child-returns-3 t)
+    (write-child-returns-2 t)
     (write-child-mul-start-was t)
     (write-child-element-copy-out-start-was t)
     (write-child-mul-inst-was t)
@@ -533,7 +524,7 @@ pub +write-child+write-place-spec : {M : Type 1} → statement M
     (write-child-mul-lows-3 t)
     (write-child-element-write-lows-3 t)
     (write-child-same-length-2 t)
-    (write-child-returns-4 t))
+    (write-child-returns-3 t))
     λ t. write-place-lts.spec (place-callees t) (write-place-at t)
     write-place.Post
     write-place-Inv-loop2

@@ -16,7 +16,7 @@ use Rattle.placing.specs.Placing.{Placing, live}
 use Rattle.placing.specs.Ready.{boardWith, placing, optionAt}
 use Rattle.placing.proofs.BoardLaws.{few-insts, few-ops, few-steps, near-leads, type-small}
 use Rattle.placing.proofs.RowLaws.{row, from-start, first-positive, first-rows}
-use Rattle.placing.proofs.ReadyLaws.{restored, rows-back, may-close, fits-ready, next-ready, late-dead, tries-places}
+use Rattle.placing.proofs.ReadyLaws.{restored, rows-back, may-close, next-ready, taken-dead, links-live, tries-places}
 use Rattle.placing.proofs.TurnLaws.{Stands, stands-whole, after-option, stops-option, stands-end, begin-start, next-start}
 use Rattle.notes.specs.NoteSheet.{markBits}
 use Rattle.notes.specs.Reading.{placeAt, branchOf, Reads}
@@ -39,8 +39,8 @@ use Rattle.placing.proofs.closing.allowed.Reads as allowed-reads
 use Rattle.placing.proofs.costing.cost_with.Reads as cost-with-reads
 use Rattle.placing.proofs.costing.lower.Reads as lower-reads
 use Rattle.placing.proofs.fitting.first_start.Reads as first-start-reads
-use Rattle.placing.proofs.fitting.fits.Reads as fits-reads
-use Rattle.placing.proofs.fitting.in_time.Reads as in-time-reads
+use Rattle.placing.proofs.fitting.free_at.Reads as free-at-reads
+use Rattle.placing.proofs.fitting.links_hold.Reads as links-hold-reads
 use Rattle.notes.proofs.reading.+child+place.{statement}
 use Rattle.notes.proofs.reading.+child+place.Tie.{close}
 
@@ -69,7 +69,7 @@ kept e = record { answers = e; same = refl; same-lows = refl }
 -- ---- child
 
 abbrev child-callees : ℕ → child-lts.Claims
-child-callees t = (in-time-reads.Asked, in-time-reads.Learnt, fits-reads.Asked, fits-reads.Learnt, lower-reads.Asked, lower-reads.Learnt, cost-with-reads.Asked, cost-with-reads.Learnt, allowed-reads.Asked, allowed-reads.Learnt, closes-at-reads.Asked, closes-at-reads.Learnt, farther-reads.Asked, farther-reads.Learnt, place-below t, place.Post)
+child-callees t = (free-at-reads.Asked, free-at-reads.Learnt, links-hold-reads.Asked, links-hold-reads.Learnt, lower-reads.Asked, lower-reads.Learnt, cost-with-reads.Asked, cost-with-reads.Learnt, allowed-reads.Asked, allowed-reads.Learnt, closes-at-reads.Asked, closes-at-reads.Learnt, farther-reads.Asked, farther-reads.Learnt, place-below t, place.Post)
 
 -- a place in the code at every measure t, and a need there
 abbrev ChildAt : ((cs : child-lts.Claims) → In 4 child-kinds.ps → Out 4 child-kinds.ps child-kinds.r → Type 0) → ℕ → Type 0
@@ -87,74 +87,72 @@ child-small t c =
     let few = few-insts _ (w .able .of) in
     (omega (arith, w .more, few-ops _ (w .able .of)), omega (arith, w .unit), type-small _ (w .able .of) _ (w .unit), few, omega (arith, w .able .few, few-ops _ (w .able .of)))
 
--- the option is live exactly where the code's test holds
-lives : (t : ℕ) (c : ChildAt child-lts.After-fits2 t)
-    → let a = c .before .before .before .before .before .before .before .before .before .before .before .before .before .args in
-    live (boardWith (a .n) (a .k) (a .t) (a .e) (a .wire) (a .clock) (a .from .now) (a .to .now) (a .types .now) (a .costs .now) (a .times .now) (a .delays .now) (a .spacings .now) (a .lasts .now) (a .near .now)) (put (placing (a .starts .now) (a .insts .now)) (a .op) (optionAt (a .s) (a .i))) ≡ c .fits2 .result
-lives t c =
-    let w = c .before .before .before .before .before .before .before .before .before .before .before .before .before .pre .1 .0 in
-    fits-ready (w .able) (w .more) (w .free) _ _ (w .begins) (w .unit) (c .fits2 .ensures)
+-- an option that is free is live exactly where its links hold
+lives : (t : ℕ) (c : ChildAt child-lts.After-links-hold t)
+    → let a = c .before .before .before .before .before .before .before .before .before .before .before .before .before .before .args in
+    live (boardWith (a .n) (a .k) (a .t) (a .e) (a .wire) (a .clock) (a .from .now) (a .to .now) (a .types .now) (a .costs .now) (a .times .now) (a .delays .now) (a .spacings .now) (a .lasts .now) (a .near .now)) (put (placing (a .starts .now) (a .insts .now)) (a .op) (optionAt (a .s) (a .i))) ≡ c .links-hold .result
+lives t c = links-live (c .before .before .before .before .before .before .before .before .before .before .before .before .before .before .pre .1 .0) (c .before .before .before .before .before .before .before .before .free-at .ensures) (not-false _ (c .before .before .before .before .before .before .before .if1 .left)) (c .links-hold .ensures)
 
-child-in-time-requires : ChildNeed child-lts.Need-in-time-requires
-child-in-time-requires t c κs = let z = child-small t (c .before .before) in (z .0, omega arith)
+child-free-at-requires : ChildNeed child-lts.Need-free-at-requires
+child-free-at-requires t c κs = let z = child-small t (c .before .before .before .before .before) in (z .4, z .0, omega arith)
 
 child-returns : ChildNeed child-lts.Need-returns
-child-returns t c = kept (dead-read _ (late-dead (c .before .before .before .before .pre .1 .0) (sym (c .before .in-time .ensures) ∙ not-true _ (c .if1 .taken))))
+child-returns t c = kept (dead-read _ (taken-dead (c .before .before .before .before .before .before .before .pre .1 .0) (c .before .free-at .ensures) (not-true _ (c .if1 .taken))))
 
-child-fits-requires : ChildNeed child-lts.Need-fits-requires
-child-fits-requires t c κs = let w = c .before .before .before .before .before .before .before .before .before .before .before .before .pre .1 .0 in let z = child-small t (c .before .before .before .before .before .before .before .before .before .before .before .before) in (z .4, z .0, omega arith, w .able .starts-long, near-leads _ (w .able .of) _ (w .more))
+child-links-hold-requires : ChildNeed child-lts.Need-links-hold-requires
+child-links-hold-requires t c κs = let w = c .before .before .before .before .before .before .before .before .before .before .before .before .before .pre .1 .0 in let z = child-small t (c .before .before .before .before .before .before .before .before .before .before .before .before .before) in (z .4, z .0, omega arith, w .able .starts-long, near-leads _ (w .able .of) _ (w .more))
 
 child-returns-2 : ChildNeed child-lts.Need-returns-2
 child-returns-2 t c = kept (dead-read _ (lives t (c .before) ∙ not-true _ (c .if2 .taken)))
 
 child-mul-y : ChildNeed child-lts.Need-mul-y
-child-mul-y t c = let z = child-small t (c .before .before .before .before .before .before .before .before .before .before .before .before .before .before) in omega arith
+child-mul-y t c = let z = child-small t (c .before .before .before .before .before .before .before .before .before .before .before .before .before .before .before) in omega arith
 
 child-element-copy-out-y : ChildNeed child-lts.Need-element-copy-out-y
-child-element-copy-out-y t c = child-small t (c .before .before .before .before .before .before .before .before .before .before .before .before .before .before) .1
+child-element-copy-out-y t c = child-small t (c .before .before .before .before .before .before .before .before .before .before .before .before .before .before .before) .1
 
 child-cast-y : ChildNeed child-lts.Need-cast-y
-child-cast-y t c = let z = child-small t (c .before .before .before .before .before .before .before .before .before .before .before .before .before .before .before) in omega arith
+child-cast-y t c = let z = child-small t (c .before .before .before .before .before .before .before .before .before .before .before .before .before .before .before .before) in omega arith
 
 child-mul-low : ChildNeed child-lts.Need-mul-low
-child-mul-low t c = let z = child-small t (c .before .before .before .before .before .before .before .before .before .before .before .before .before .before .before) in omega arith
+child-mul-low t c = let z = child-small t (c .before .before .before .before .before .before .before .before .before .before .before .before .before .before .before .before) in omega arith
 
 child-element-copy-out-low : ChildNeed child-lts.Need-element-copy-out-low
-child-element-copy-out-low t c = child-small t (c .before .before .before .before .before .before .before .before .before .before .before .before .before .before .before) .2
+child-element-copy-out-low t c = child-small t (c .before .before .before .before .before .before .before .before .before .before .before .before .before .before .before .before) .2
 
 child-cast-lower : ChildNeed child-lts.Need-cast-lower
-child-cast-lower t c = let z = child-small t (c .before .before .before .before .before .before .before .before .before .before .before .before .before .before .before .before) in omega arith
+child-cast-lower t c = let z = child-small t (c .before .before .before .before .before .before .before .before .before .before .before .before .before .before .before .before .before) in omega arith
 
 child-lower-requires : ChildNeed child-lts.Need-lower-requires
 child-lower-requires t c κs = search needs
 
 child-mul-lows : ChildNeed child-lts.Need-mul-lows
-child-mul-lows t c = let z = child-small t (c .before .before .before .before .before .before .before .before .before .before .before .before .before .before .before .before .before) in omega arith
+child-mul-lows t c = let z = child-small t (c .before .before .before .before .before .before .before .before .before .before .before .before .before .before .before .before .before .before) in omega arith
 
 child-element-write-lows : ChildNeed child-lts.Need-element-write-lows
-child-element-write-lows t c = child-small t (c .before .before .before .before .before .before .before .before .before .before .before .before .before .before .before .before .before) .2
+child-element-write-lows t c = child-small t (c .before .before .before .before .before .before .before .before .before .before .before .before .before .before .before .before .before .before) .2
 
 child-cost-with-requires : ChildNeed child-lts.Need-cost-with-requires
-child-cost-with-requires t c κs = child-small t (c .before .before .before .before .before .before .before .before .before .before .before .before .before .before .before .before .before .before .before .before .before) .3
+child-cost-with-requires t c κs = child-small t (c .before .before .before .before .before .before .before .before .before .before .before .before .before .before .before .before .before .before .before .before .before .before) .3
 
 child-allowed-requires : ChildNeed child-lts.Need-allowed-requires
 child-allowed-requires t c κs = search needs
 
 child-closes-at-requires : ChildNeed child-lts.Need-closes-at-requires
-child-closes-at-requires t c κs = let w = c .before .before .before .before .before .before .before .before .before .before .before .before .before .before .before .before .before .before .before .before .before .before .before .pre .1 in omega (arith, w .1, w .2)
+child-closes-at-requires t c κs = let w = c .before .before .before .before .before .before .before .before .before .before .before .before .before .before .before .before .before .before .before .before .before .before .before .before .pre .1 in omega (arith, w .1, w .2)
 
 child-mul-lows-2 : ChildNeed child-lts.Need-mul-lows-2
-child-mul-lows-2 t c = let z = child-small t (c .before .before .before .before .before .before .before .before .before .before .before .before .before .before .before .before .before .before .before .before .before .before .before .before .before) in omega arith
+child-mul-lows-2 t c = let z = child-small t (c .before .before .before .before .before .before .before .before .before .before .before .before .before .before .before .before .before .before .before .before .before .before .before .before .before .before) in omega arith
 
 child-element-write-lows-2 : ChildNeed child-lts.Need-element-write-lows-2
-child-element-write-lows-2 t c = child-small t (c .before .before .before .before .before .before .before .before .before .before .before .before .before .before .before .before .before .before .before .before .before .before .before .before .before) .2
+child-element-write-lows-2 t c = child-small t (c .before .before .before .before .before .before .before .before .before .before .before .before .before .before .before .before .before .before .before .before .before .before .before .before .before .before) .2
 
 child-add-t71 : ChildNeed child-lts.Need-add-t71
-child-add-t71 t c = let w = c .before .before .before .before .before .before .before .before .before .before .before .before .before .before .before .before .before .before .before .before .before .before .before .before .before .pre .1 in omega (arith, w .1, w .2)
+child-add-t71 t c = let w = c .before .before .before .before .before .before .before .before .before .before .before .before .before .before .before .before .before .before .before .before .before .before .before .before .before .before .pre .1 in omega (arith, w .1, w .2)
 
 child-returns-3 : ChildNeed child-lts.Need-returns-3
 child-returns-3 t c =
-    let w = c .before .before .before .before .before .before .before .before .before .before .before .before .before .before .before .before .before .before .before .before .before .before .before .before .before .pre .1 .0 in
+    let w = c .before .before .before .before .before .before .before .before .before .before .before .before .before .before .before .before .before .before .before .before .before .before .before .before .before .before .pre .1 .0 in
     let l = (lives t (c .before .before .before .before .before .before .before .before .before .before .before .before) ∙ not-false _ (c .before .before .before .before .before .before .before .before .before .before .before .if2 .left)) in
     let ready = next-ready (tries-places w l) _ (w .able .few) (w .more) (omega arith) refl (c .before .before .before .before .before .before .before .before .lower .ensures) (c .before .before .before .cost-with .ensures) in
     let h = three-hold _ _ _ (c .if3 .taken) in
@@ -165,59 +163,59 @@ child-returns-3 t c =
     }
 
 child-mul-start-was : ChildNeed child-lts.Need-mul-start-was
-child-mul-start-was t c = let z = child-small t (c .before .before .before .before .before .before .before .before .before .before .before .before .before .before .before .before .before .before .before .before .before .before .before .before .before) in omega arith
+child-mul-start-was t c = let z = child-small t (c .before .before .before .before .before .before .before .before .before .before .before .before .before .before .before .before .before .before .before .before .before .before .before .before .before .before) in omega arith
 
 child-element-copy-out-start-was : ChildNeed child-lts.Need-element-copy-out-start-was
-child-element-copy-out-start-was t c = child-small t (c .before .before .before .before .before .before .before .before .before .before .before .before .before .before .before .before .before .before .before .before .before .before .before .before .before) .0
+child-element-copy-out-start-was t c = child-small t (c .before .before .before .before .before .before .before .before .before .before .before .before .before .before .before .before .before .before .before .before .before .before .before .before .before .before) .0
 
 child-mul-inst-was : ChildNeed child-lts.Need-mul-inst-was
-child-mul-inst-was t c = let z = child-small t (c .before .before .before .before .before .before .before .before .before .before .before .before .before .before .before .before .before .before .before .before .before .before .before .before .before .before) in omega arith
+child-mul-inst-was t c = let z = child-small t (c .before .before .before .before .before .before .before .before .before .before .before .before .before .before .before .before .before .before .before .before .before .before .before .before .before .before .before) in omega arith
 
 child-element-copy-out-inst-was : ChildNeed child-lts.Need-element-copy-out-inst-was
-child-element-copy-out-inst-was t c = child-small t (c .before .before .before .before .before .before .before .before .before .before .before .before .before .before .before .before .before .before .before .before .before .before .before .before .before .before) .0
+child-element-copy-out-inst-was t c = child-small t (c .before .before .before .before .before .before .before .before .before .before .before .before .before .before .before .before .before .before .before .before .before .before .before .before .before .before .before) .0
 
 child-mul-starts : ChildNeed child-lts.Need-mul-starts
-child-mul-starts t c = let z = child-small t (c .before .before .before .before .before .before .before .before .before .before .before .before .before .before .before .before .before .before .before .before .before .before .before .before .before .before .before) in omega arith
+child-mul-starts t c = let z = child-small t (c .before .before .before .before .before .before .before .before .before .before .before .before .before .before .before .before .before .before .before .before .before .before .before .before .before .before .before .before) in omega arith
 
 child-element-write-starts : ChildNeed child-lts.Need-element-write-starts
-child-element-write-starts t c = child-small t (c .before .before .before .before .before .before .before .before .before .before .before .before .before .before .before .before .before .before .before .before .before .before .before .before .before .before .before) .0
+child-element-write-starts t c = child-small t (c .before .before .before .before .before .before .before .before .before .before .before .before .before .before .before .before .before .before .before .before .before .before .before .before .before .before .before .before) .0
 
 child-cast-insts : ChildNeed child-lts.Need-cast-insts
-child-cast-insts t c = let z = child-small t (c .before .before .before .before .before .before .before .before .before .before .before .before .before .before .before .before .before .before .before .before .before .before .before .before .before .before .before) in omega arith
+child-cast-insts t c = let z = child-small t (c .before .before .before .before .before .before .before .before .before .before .before .before .before .before .before .before .before .before .before .before .before .before .before .before .before .before .before .before) in omega arith
 
 child-mul-insts : ChildNeed child-lts.Need-mul-insts
-child-mul-insts t c = let z = child-small t (c .before .before .before .before .before .before .before .before .before .before .before .before .before .before .before .before .before .before .before .before .before .before .before .before .before .before .before) in omega arith
+child-mul-insts t c = let z = child-small t (c .before .before .before .before .before .before .before .before .before .before .before .before .before .before .before .before .before .before .before .before .before .before .before .before .before .before .before .before) in omega arith
 
 child-element-write-insts : ChildNeed child-lts.Need-element-write-insts
-child-element-write-insts t c = child-small t (c .before .before .before .before .before .before .before .before .before .before .before .before .before .before .before .before .before .before .before .before .before .before .before .before .before .before .before) .0
+child-element-write-insts t c = child-small t (c .before .before .before .before .before .before .before .before .before .before .before .before .before .before .before .before .before .before .before .before .before .before .before .before .before .before .before .before) .0
 
 child-farther-requires : ChildNeed child-lts.Need-farther-requires
-child-farther-requires t c κs = child-small t (c .before .before .before .before .before .before .before .before .before .before .before .before .before .before .before .before .before .before .before .before .before .before .before .before .before .before .before) .0
+child-farther-requires t c κs = child-small t (c .before .before .before .before .before .before .before .before .before .before .before .before .before .before .before .before .before .before .before .before .before .before .before .before .before .before .before .before) .0
 
 child-place-requires : ChildNeed child-lts.Need-place-requires
 child-place-requires t c κs =
-    let s = c .before .before .before .before .before .before .before .before .before .before .before .before .before .before .before .before .before .before .before .before .before .before .before .before .before .before .before .before .before .before .before in
+    let s = c .before .before .before .before .before .before .before .before .before .before .before .before .before .before .before .before .before .before .before .before .before .before .before .before .before .before .before .before .before .before .before .before in
     let w = s .pre .1 in
     let l = (lives t (c .before .before .before .before .before .before .before .before .before .before .before .before .before .before .before .before .before .before) ∙ not-false _ (c .before .before .before .before .before .before .before .before .before .before .before .before .before .before .before .before .before .if2 .left)) in
     (omega (arith, s .pre .0), (next-ready (tries-places (w .0) l) _ (reach-up _ _ (c .before .before .before .farther .ensures)) (reach-over _ _ (c .before .before .before .farther .ensures)) (reach-below _ _ (c .before .before .before .farther .ensures) (w .0 .able .few) (w .0 .more)) refl (c .before .before .before .before .before .before .before .before .before .before .before .before .before .before .lower .ensures) (c .before .before .before .before .before .before .before .before .before .cost-with .ensures), w .1, w .2, w .3))
 
 child-mul-starts-2 : ChildNeed child-lts.Need-mul-starts-2
-child-mul-starts-2 t c = let z = child-small t (c .before .before .before .before .before .before .before .before .before .before .before .before .before .before .before .before .before .before .before .before .before .before .before .before .before .before .before .before .before .before .before .before) in omega arith
+child-mul-starts-2 t c = let z = child-small t (c .before .before .before .before .before .before .before .before .before .before .before .before .before .before .before .before .before .before .before .before .before .before .before .before .before .before .before .before .before .before .before .before .before) in omega arith
 
 child-element-write-starts-2 : ChildNeed child-lts.Need-element-write-starts-2
-child-element-write-starts-2 t c = child-small t (c .before .before .before .before .before .before .before .before .before .before .before .before .before .before .before .before .before .before .before .before .before .before .before .before .before .before .before .before .before .before .before .before) .0
+child-element-write-starts-2 t c = child-small t (c .before .before .before .before .before .before .before .before .before .before .before .before .before .before .before .before .before .before .before .before .before .before .before .before .before .before .before .before .before .before .before .before .before) .0
 
 child-mul-insts-2 : ChildNeed child-lts.Need-mul-insts-2
-child-mul-insts-2 t c = let z = child-small t (c .before .before .before .before .before .before .before .before .before .before .before .before .before .before .before .before .before .before .before .before .before .before .before .before .before .before .before .before .before .before .before .before) in omega arith
+child-mul-insts-2 t c = let z = child-small t (c .before .before .before .before .before .before .before .before .before .before .before .before .before .before .before .before .before .before .before .before .before .before .before .before .before .before .before .before .before .before .before .before .before) in omega arith
 
 child-element-write-insts-2 : ChildNeed child-lts.Need-element-write-insts-2
-child-element-write-insts-2 t c = child-small t (c .before .before .before .before .before .before .before .before .before .before .before .before .before .before .before .before .before .before .before .before .before .before .before .before .before .before .before .before .before .before .before .before) .0
+child-element-write-insts-2 t c = child-small t (c .before .before .before .before .before .before .before .before .before .before .before .before .before .before .before .before .before .before .before .before .before .before .before .before .before .before .before .before .before .before .before .before .before) .0
 
 child-mul-lows-3 : ChildNeed child-lts.Need-mul-lows-3
-child-mul-lows-3 t c = let z = child-small t (c .before .before .before .before .before .before .before .before .before .before .before .before .before .before .before .before .before .before .before .before .before .before .before .before .before .before .before .before .before .before .before .before) in omega arith
+child-mul-lows-3 t c = let z = child-small t (c .before .before .before .before .before .before .before .before .before .before .before .before .before .before .before .before .before .before .before .before .before .before .before .before .before .before .before .before .before .before .before .before .before) in omega arith
 
 child-element-write-lows-3 : ChildNeed child-lts.Need-element-write-lows-3
-child-element-write-lows-3 t c = child-small t (c .before .before .before .before .before .before .before .before .before .before .before .before .before .before .before .before .before .before .before .before .before .before .before .before .before .before .before .before .before .before .before .before) .2
+child-element-write-lows-3 t c = child-small t (c .before .before .before .before .before .before .before .before .before .before .before .before .before .before .before .before .before .before .before .before .before .before .before .before .before .before .before .before .before .before .before .before .before) .2
 
 child-returns-4 : ChildNeed child-lts.Need-returns-4
 child-returns-4 t c =
@@ -412,7 +410,7 @@ place-loop2-again t c =
     let l = c .before .before .before .before .before .before .before .loop2-test .taken in
     let r = c .before .before .before .child .ensures in
     let e = closed-turn _ (r .answers) (c .before .branch .given .1) in
-    (o .0, o .1, omega arith, option-inside _ _ _ _ _ _ _ _ e (o .3), after-option _ _ (o .4) l e (r .same) (r .same-lows))
+    (o .0, o .1, omega (arith, l), option-inside _ _ _ _ _ _ _ _ e (o .3), after-option _ _ (o .4) l e (r .same) (r .same-lows))
 
 place-add-s : PlaceNeed place-lts.Need-add-s
 place-add-s t c = let z = few-steps _ (c .before .loop2 .inv .4 .able .of) in omega (arith, c .before .loop2 .inv .1)
@@ -436,9 +434,9 @@ place-returns-5 t c =
 pub +child+place-spec : {M : Type 1} → statement M
 +child+place-spec = close μ-child μ-place (λ t. child-lts.spec (child-callees t) (child-at t)
     child.Post
-    (child-in-time-requires t)
+    (child-free-at-requires t)
     (child-returns t)
-    (child-fits-requires t)
+    (child-links-hold-requires t)
     (child-returns-2 t)
     (child-mul-y t)
     (child-element-copy-out-y t)
