@@ -2,7 +2,6 @@
 -- behind them.
 use Prim.Native.Nat.{ℕ, _+_, _≤_, _<_}
 use mathlib.Core.Path.{_≡_}
-use mathlib.Core.Bool.{Bool, true}
 use mathlib.Core.List.{List}
 use lib.Dec.{leb}
 use lib.ListN.{length}
@@ -10,7 +9,6 @@ use Rattle.basics.specs.Numbers.{outputShort}
 use Rattle.basics.specs.Tables.{cell}
 use Rattle.bits.specs.Sheet.{Field, total, putAll}
 use Rattle.placing.specs.Closing.{Turn, goes, stops, andThen, goesIf, ifLive, closable, splitOn}
-use Rattle.placing.specs.Fitting.{firstStart}
 use Rattle.placing.specs.Options.{none}
 use Rattle.placing.specs.Placing.{Placing, live}
 use Rattle.placing.specs.declared.Board.{Board}
@@ -51,10 +49,6 @@ draftEnd (stops number) = stops number
 -- operations are placed in number order
 pub record InOrder (p : Placing) (op : ℕ) : Type 0 where
   pub below : (o : ℕ) → o < op → 1 ≤ cell (p .starts) o
-
--- links are settled only behind the first start
-pub record Settles (delays near : List ℕ) (p : Placing) (op s : ℕ) (settled : Bool) : Type 0 where
-  pub behind : settled ≡ true → firstStart delays near (p .starts) (p .insts) op op < s
 
 -- where the definition's turn is t: the answer, the bytes where it goes on, its end in the room, and the rows as they came
 pub record Writes (room : ℕ) (t : Turn Draft) (r : Branch) (sheet sheet' : List ℕ) (p p' : Placing) (lows lows' : List ℕ) : Type 0 where

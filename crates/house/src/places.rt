@@ -4,9 +4,9 @@ ghost use Prim.Native.Nat.{_+_, _-_, _*_, _<_, _≤_, _^_};
 ghost use lib.ListN.{length};
 ghost use Rattle.bits.specs.Sheet.{putAll};
 ghost use Rattle.placing.specs.Options.{put as putRow};
-ghost use Rattle.placing.specs.Ready.{boardWith, placing, optionAt, Ready, Tries};
+ghost use Rattle.placing.specs.Ready.{boardWith, placing, optionAt, Ready, Tries, Settles};
 ghost use Rattle.notes.specs.NoteSheet.{splitMark, maxNote};
-ghost use Rattle.house.specs.Writing.{draft, writeAt, optionWrite, InOrder, Settles, Writes};
+ghost use Rattle.house.specs.Writing.{draft, writeAt, optionWrite, InOrder, Writes};
 use basics::OUTPUT_SHORT;
 use bits::put;
 use notes::Branch;
@@ -57,7 +57,7 @@ fn write_child<'a>(
     requires { ⌜ Tries
         (boardWith n k t e wire clock (now from) (now to) (now types) (now costs) (now times) (now delays) (now spacings) (now lasts) (now near))
         op op (placing (now starts) (now insts)) (now lows) here s i
-        × Settles (now delays) (now near) (placing (now starts) (now insts)) op s settled
+        × Settles (now delays) (now near) op (placing (now starts) (now insts)) op s settled
         × InOrder (placing (now starts) (now insts)) op
         × (room ≤ 8 * length (now sheet)) × (room ≤ 8 * maxNote) × (at ≤ room) × (n ≤ 2 ^ width) × (width ≤ 16) ⌝ }
     ensures { λ r. ⌜ Writes room

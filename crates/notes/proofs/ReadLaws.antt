@@ -5,7 +5,7 @@ use mathlib.Core.Bool.{Bool, true, false, not, _&&_}
 use mathlib.Core.List.{List}
 use native.Mathlib.Omega.{arith}
 use borrow.Author.Tests.{eq-eqb, ne-eqb, eqb-true, leb-true, ltb-true, ltb-false, not-true}
-use lib.Dec.{eqb, ltb, lit<}
+use lib.Dec.{eqb, leb, ltb, lit<}
 use lib.ListN.{length}
 use Rattle.basics.specs.Faults.{_orElse_, faultUnless}
 use Rattle.basics.specs.Numbers.{splitBroken, cheaper, noteLong, paperNote}
@@ -26,7 +26,9 @@ use Rattle.rules.specs.declared.Judged.{Judged}
 use Rattle.placing.specs.Closing.{Turn, goes, stops, goesIf, ifLive, inTurn, closable, choice, unplaced, splitOn}
 use Rattle.placing.specs.Board.{WasRead, boardOf}
 use Rattle.placing.specs.Options.{none}
+use Rattle.placing.specs.Fitting.{firstStart}
 use Rattle.placing.specs.Placing.{Placing, live}
+use Rattle.placing.specs.Ready.{Settles}
 use Rattle.placing.specs.declared.Board.{Board}
 use Rattle.placing.specs.declared.Claim.{Claim}
 use Rattle.notes.specs.NoteSheet.{markBits, noteHead, splitBits, maxNote}
@@ -190,6 +192,15 @@ once-read note w b claim p at may some h =
 
 pub three-hold : (x y z : Bool) → x && y && z ≡ true → (x ≡ true) × (y ≡ true) × (z ≡ true)
 three-hold x y z h = let a = and-both (x && y) z h in let b = and-both x y (a .0) in (b .0, b .1, a .1)
+
+-- the code's test of whether links are settled
+pub settles : {delays near : List ℕ} {reach op : ℕ} {p : Placing} (first s : ℕ) → first ≡ firstStart delays near (p .starts) (p .insts) op op
+    → Settles delays near reach p op s (leb reach op && ltb first s)
+settles {delays} {near} {reach} {op} {p} first s e =
+    record {
+      below = λ h. leb-true reach op (and-both (leb reach op) (ltb first s) h .0);
+      behind = λ h. rw (← e) (ltb-true first s (and-both (leb reach op) (ltb first s) h .1));
+    }
 
 -- the operations placed, with one more
 module _ (reach op : ℕ) {r : ℕ} (e : r ≡ max reach (op + 1)) where

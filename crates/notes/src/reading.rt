@@ -1,10 +1,13 @@
 // The tree of a note: a place is read as a mark and then its children, each child again a place.
 ghost use mathlib.Core.Path.{_≡_};
+ghost use mathlib.Core.Bool.{_||_};
 ghost use Prim.Native.Nat.{_+_, _*_, _<_, _≤_, _^_, max};
 ghost use lib.ListN.{length};
 ghost use Rattle.placing.specs.Closing.{goesIf, unplaced as unplacedIn};
+ghost use Rattle.placing.specs.Board.{Leads};
+ghost use Rattle.placing.specs.Fitting.{linksHold};
 ghost use Rattle.placing.specs.Options.{put as putRow};
-ghost use Rattle.placing.specs.Ready.{boardWith, placing, optionAt, Ready, Tries};
+ghost use Rattle.placing.specs.Ready.{boardWith, placing, optionAt, Ready, Tries, Settles};
 ghost use Rattle.sheets.specs.Limits.{opCells};
 ghost use Rattle.notes.specs.NoteSheet.{maxNote};
 ghost use Rattle.notes.specs.Reading.{splits, closes, splitOp, markFault, placeAt, optionRead, branchOf, Reads};
@@ -91,6 +94,48 @@ fn farther(reach: usize, op: usize) -> usize
     if reach <= op { op + 1 } else { reach }
 }
 
+// Links are settled, or hold.
+fn links_kept<'a>(
+    from: &'a [u16],
+    to: &'a [u16],
+    e: u16,
+    wire: u16,
+    clock: u16,
+    times: &'a [u16],
+    delays: &'a [u16],
+    near: &'a [u16; NEAR_TABLE],
+    starts: &'a [u16; OP_CELLS],
+    insts: &'a [u16; OP_CELLS],
+    settled: bool,
+    reach: usize,
+    op: usize,
+    s: u16,
+    i: usize,
+) -> bool
+    requires { ⌜ (reach ≤ opCells) × (op < opCells) × (i < 2 ^ 16) × (length (now starts) ≡ opCells) × Leads (now near) op ⌝ }
+    ensures { λ r. ⌜ r ≡ settled || linksHold (now (from .entry)) (now (to .entry)) e wire clock (now (times .entry)) (now (delays .entry)) (now (near .entry)) (now (starts .entry)) (now (insts .entry)) reach op s i ⌝ }
+{
+    if settled {
+        return true;
+    }
+    links_hold(
+        from,
+        to,
+        e,
+        wire,
+        clock,
+        times,
+        delays,
+        near,
+        starts,
+        insts,
+        reach,
+        op,
+        s,
+        i,
+    )
+}
+
 // Reads the option of operation op at step s on instance i, which is a place of its own where it is live, and nothing else. A child
 // that is closed at once is not placed.
 fn child<'a>(
@@ -119,6 +164,7 @@ fn child<'a>(
     here: u32,
     s: u16,
     i: usize,
+    settled: bool,
     starts: &mut [u16; OP_CELLS],
     insts: &mut [u16; OP_CELLS],
     lows: &mut [u16; TYPE_CELLS],
@@ -126,6 +172,7 @@ fn child<'a>(
     requires { ⌜ Tries
         (boardWith n k t e wire clock (now from) (now to) (now types) (now costs) (now times) (now delays) (now spacings) (now lasts) (now near))
         reach op (placing (now starts) (now insts)) (now lows) here s i
+        × Settles (now delays) (now near) reach (placing (now starts) (now insts)) op s settled
         × (length (now note) ≤ maxNote) × (at ≤ 8 * length (now note)) × (width ≤ 16) ⌝ }
     ensures { λ r. ⌜ Reads
         (optionRead (now (note .entry)) width
@@ -136,7 +183,7 @@ fn child<'a>(
     if !free_at(spacings, lasts, starts, insts, reach, op, s, i) {
         return Branch::Closed(at);
     }
-    if !links_hold(
+    if !links_kept(
         from,
         to,
         e,
@@ -147,6 +194,7 @@ fn child<'a>(
         near,
         starts,
         insts,
+        settled,
         reach,
         op,
         s,
@@ -251,7 +299,8 @@ pub(crate) fn place<'a>(
         return Branch::Closed(at + MARK_BITS);
     }
     let mut next = at + MARK_BITS + width;
-    let mut s = first_start(delays, near, starts, insts, op);
+    let first = first_start(delays, near, starts, insts, op);
+    let mut s = first;
     while s <= t as u32 {
         let mut i: usize = 0;
         while i < k {
@@ -281,6 +330,7 @@ pub(crate) fn place<'a>(
                 here,
                 s as u16,
                 i,
+                (reach <= op) & (first < s),
                 starts,
                 insts,
                 lows,

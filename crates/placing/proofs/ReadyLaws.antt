@@ -3,7 +3,7 @@
 -- nothing placed it is: `none-ready`. A row that is taken back leaves what was there: `restored`, `rows-back`.
 use Prim.Native.Nat.{ℕ, _≤_, _<_, min}
 use mathlib.Core.Path.{_≡_, refl, sym, ap, ap₂, _∙_}
-use mathlib.Core.Bool.{Bool, true, false}
+use mathlib.Core.Bool.{Bool, true, false, _||_}
 use mathlib.Core.List.{List}
 use native.Mathlib.Omega.{arith}
 use borrow.Author.Tests.{ltb-true}
@@ -11,6 +11,7 @@ use lib.Dec.{ltb}
 use lib.ListN.{set, length-set, replicate}
 use lib.Seq.{set-set, set-getD, getD-set-other}
 use Rattle.basics.specs.Tables.{cell}
+use Rattle.basics.proofs.CountLaws.{allTo-fewer, anyTo-none, none-anyTo}
 use Rattle.basics.proofs.TableLaws.{cell-replicate}
 use Rattle.sheets.specs.Limits.{opCells, instCells, typeCells}
 use Rattle.placing.specs.declared.Board.{Board}
@@ -18,10 +19,10 @@ use Rattle.placing.specs.declared.Claim.{Claim}
 use Rattle.placing.specs.Board.{OfJob, unit}
 use Rattle.placing.specs.Closing.{allowed, closable}
 use Rattle.placing.specs.Costing.{costWith}
-use Rattle.placing.specs.Fitting.{freeAt, linksHold, fits, firstStart}
+use Rattle.placing.specs.Fitting.{linkFits, linksFit, chainedAt, chained, freeAt, linksHold, fits, firstStart}
 use Rattle.placing.specs.Options.{none, put}
 use Rattle.placing.specs.Placing.{Placing, live}
-use Rattle.placing.specs.Ready.{placing, optionAt, Ready, Tries, Places}
+use Rattle.placing.specs.Ready.{placing, optionAt, Ready, Tries, Settles, Places}
 use Rattle.placing.proofs.CostLaws.{tracks-none, tracks-put}
 use Rattle.placing.proofs.FitLaws.{fits-live, settled-links}
 use Rattle.placing.proofs.PartLaws.{none-live}
@@ -111,11 +112,20 @@ module _ {b : Board} {reach op : ℕ} {p : Placing} {lows : List ℕ} {here s i 
   unfolding fits
   taken-dead h = fits-ready (w .able) (w .more) (w .free) s i (w .begins) (w .unit) (rw (← f, h))
 
-  pub links-live : free ≡ true → {held : Bool}
-      → held ≡ linksHold (b .from) (b .to) (b .e) (b .wire) (b .clock) (b .times) (b .delays) (b .near) (p .starts) (p .insts) reach op s i
+  pub links-live : free ≡ true → {held : Bool} (settled : Bool) → Settles (b .delays) (b .near) reach p op s settled
+      → held ≡ settled || linksHold (b .from) (b .to) (b .e) (b .wire) (b .clock) (b .times) (b .delays) (b .near) (p .starts) (p .insts) reach op s i
       → live b (put p op (optionAt s i)) ≡ held
-  unfolding fits
-  links-live h g = fits-ready (w .able) (w .more) (w .free) s i (w .begins) (w .unit) (g ∙ rw (← f, h))
+  unfolding fits linksFit chained
+  links-live h settled q g =
+      sym ((g ∙ rw (← f, h)) ∙ fits-live b (w .able .of) p (w .able .starts-long) (w .able .insts-long) (w .able .alive) settled reach op s i
+      (λ k.
+      let v = settled-links (b .delays) (b .near) (p .starts) (p .insts) op (b .times) (b .wire) (b .clock) s (unit (b .times) op i) (unit (b .delays) op i) (q .behind k) in
+      let near = chainedAt (b .near) (p .starts) op s in
+      let few = q .below k in (
+        allTo-fewer (linkFits (b .times) (b .delays) (b .near) (p .starts) (p .insts) (b .wire) (b .clock) op s (unit (b .times) op i) (unit (b .delays) op i)) reach op few (v .0),
+        anyTo-none near reach (λ x l. none-anyTo near op (v .1) x (omega arith)),
+      ))
+      (w .able .behind) (w .able .few) (w .more) (w .unit) (w .begins) (w .free))
 
 pub tries-places : {b : Board} {reach op : ℕ} {p : Placing} {lows : List ℕ} {here s i : ℕ} → Tries b reach op p lows here s i → live b (put p op (optionAt s i)) ≡ true
     → Places b reach op p lows here s i

@@ -2,7 +2,7 @@
 -- and `optionAt` put together what the code has in pieces.
 use Prim.Native.Nat.{ℕ, _≤_, _<_}
 use mathlib.Core.Path.{_≡_}
-use mathlib.Core.Bool.{true}
+use mathlib.Core.Bool.{Bool, true}
 use mathlib.Core.List.{List}
 use lib.ListN.{length}
 use Rattle.basics.specs.Tables.{cell}
@@ -10,6 +10,7 @@ use Rattle.sheets.specs.Limits.{opCells, typeCells}
 use Rattle.placing.specs.declared.Board.{Board}
 use Rattle.placing.specs.Board.{OfJob}
 use Rattle.placing.specs.Costing.{Tracks}
+use Rattle.placing.specs.Fitting.{firstStart}
 use Rattle.placing.specs.Options.{Option, put}
 use Rattle.placing.specs.Placing.{Placing, live}
 
@@ -57,6 +58,11 @@ pub record Tries (b : Board) (reach op : ℕ) (p : Placing) (lows : List ℕ) (h
   pub free : cell (p .starts) op ≡ 0
   pub begins : 1 ≤ s
   pub unit : i < b .k
+
+-- links are settled only behind the first start, where no operation from op on is placed
+pub record Settles (delays near : List ℕ) (reach : ℕ) (p : Placing) (op s : ℕ) (settled : Bool) : Type 0 where
+  pub below : settled ≡ true → reach ≤ op
+  pub behind : settled ≡ true → firstStart delays near (p .starts) (p .insts) op op < s
 
 -- and it is live
 pub record Places (b : Board) (reach op : ℕ) (p : Placing) (lows : List ℕ) (here s i : ℕ) : Type 0 where

@@ -417,7 +417,7 @@ write-place-write-child-requires t c κs =
       omega (arith, s .pre .0, o .6 .more),
       (
         record { able = o .6 .able; more = o .6 .more; free = o .6 .free; begins = o .0; unit = c .before .before .before .before .loop2-test .taken },
-        record { behind = λ h. rw (← same-first _ _ _ (o .6 .same) (o .3)) (ltb-true _ _ h) },
+        record { below = λ h. omega arith; behind = λ h. rw (← same-first _ _ _ (o .6 .same) (o .3)) (ltb-true _ _ h) },
         same-order (whole-same t (c .before .before .before .before) .0) (s .pre .1 .1),
         omega (arith, s .pre .1 .2, whole-size t (c .before .before .before .before)),
         s .pre .1 .3,

@@ -11,17 +11,18 @@ use lib.ListN.{length}
 use Rattle.basics.specs.Tables.{cell}
 use Rattle.sheets.specs.Limits.{opCells, instCells, typeCells, maxSteps}
 use Rattle.placing.specs.Closing.{Turn, inTurn, splitOn}
+use Rattle.placing.specs.Fitting.{firstStart}
 use Rattle.placing.specs.Options.{put, liveOnes}
 use Rattle.placing.specs.Placing.{Placing, live}
 use Rattle.placing.specs.Ready.{boardWith, placing, optionAt}
 use Rattle.placing.proofs.BoardLaws.{few-insts, few-ops, few-steps, near-leads, type-small}
-use Rattle.placing.proofs.RowLaws.{row, from-start, first-positive, first-rows}
+use Rattle.placing.proofs.RowLaws.{row, from-start, first-positive, same-first, first-rows}
 use Rattle.placing.proofs.ReadyLaws.{restored, rows-back, may-close, next-ready, taken-dead, links-live, tries-places}
 use Rattle.placing.proofs.TurnLaws.{Stands, stands-whole, after-option, stops-option, stands-end, begin-start, next-start}
 use Rattle.notes.specs.NoteSheet.{markBits}
 use Rattle.notes.specs.Reading.{placeAt, branchOf, Reads}
 use Rattle.notes.specs.declared.Branch.{Branch}
-use Rattle.notes.proofs.ReadLaws.{closed-turn, refused-turn, leaf-place, fault-place, close-place, split-place, split-inside, split-free, option-inside, dead-read, live-read, once-read, three-hold, reach-up, reach-over, reach-below}
+use Rattle.notes.proofs.ReadLaws.{closed-turn, refused-turn, leaf-place, fault-place, close-place, split-place, split-inside, split-free, option-inside, dead-read, live-read, once-read, settles, three-hold, reach-up, reach-over, reach-below}
 use borrow.Fn.PlainCycle.{Measures, is, falls, and}
 use Rattle.notes.proofs.reading.child.Reads as child
 use Rattle.notes.proofs.reading.child.Kinds as child-kinds
@@ -32,6 +33,7 @@ use Rattle.notes.proofs.reading.+child+place.Lts-place as place-lts
 use Rattle.notes.proofs.reading.closed_if.Reads as closed-if-reads
 use Rattle.notes.proofs.reading.closes_at.Reads as closes-at-reads
 use Rattle.notes.proofs.reading.farther.Reads as farther-reads
+use Rattle.notes.proofs.reading.links_kept.Reads as links-kept-reads
 use Rattle.notes.proofs.reading.mark_fault.Reads as mark-fault-reads
 use Rattle.notes.proofs.reading.split_op.Reads as split-op-reads
 use Rattle.notes.proofs.reading.splits_at.Reads as splits-at-reads
@@ -40,7 +42,6 @@ use Rattle.placing.proofs.costing.cost_with.Reads as cost-with-reads
 use Rattle.placing.proofs.costing.lower.Reads as lower-reads
 use Rattle.placing.proofs.fitting.first_start.Reads as first-start-reads
 use Rattle.placing.proofs.fitting.free_at.Reads as free-at-reads
-use Rattle.placing.proofs.fitting.links_hold.Reads as links-hold-reads
 use Rattle.notes.proofs.reading.+child+place.{statement}
 use Rattle.notes.proofs.reading.+child+place.Tie.{close}
 
@@ -69,7 +70,7 @@ kept e = record { answers = e; same = refl; same-lows = refl }
 -- ---- child
 
 abbrev child-callees : ℕ → child-lts.Claims
-child-callees t = (free-at-reads.Asked, free-at-reads.Learnt, links-hold-reads.Asked, links-hold-reads.Learnt, lower-reads.Asked, lower-reads.Learnt, cost-with-reads.Asked, cost-with-reads.Learnt, allowed-reads.Asked, allowed-reads.Learnt, closes-at-reads.Asked, closes-at-reads.Learnt, farther-reads.Asked, farther-reads.Learnt, place-below t, place.Post)
+child-callees t = (free-at-reads.Asked, free-at-reads.Learnt, links-kept-reads.Asked, links-kept-reads.Learnt, lower-reads.Asked, lower-reads.Learnt, cost-with-reads.Asked, cost-with-reads.Learnt, allowed-reads.Asked, allowed-reads.Learnt, closes-at-reads.Asked, closes-at-reads.Learnt, farther-reads.Asked, farther-reads.Learnt, place-below t, place.Post)
 
 -- a place in the code at every measure t, and a need there
 abbrev ChildAt : ((cs : child-lts.Claims) → In 4 child-kinds.ps → Out 4 child-kinds.ps child-kinds.r → Type 0) → ℕ → Type 0
@@ -87,11 +88,11 @@ child-small t c =
     let few = few-insts _ (w .able .of) in
     (omega (arith, w .more, few-ops _ (w .able .of)), omega (arith, w .unit), type-small _ (w .able .of) _ (w .unit), few, omega (arith, w .able .few, few-ops _ (w .able .of)))
 
--- an option that is free is live exactly where its links hold
-lives : (t : ℕ) (c : ChildAt child-lts.After-links-hold t)
+-- an option that is free is live exactly where its links are kept
+lives : (t : ℕ) (c : ChildAt child-lts.After-links-kept t)
     → let a = c .before .before .before .before .before .before .before .before .before .before .before .before .before .before .args in
-    live (boardWith (a .n) (a .k) (a .t) (a .e) (a .wire) (a .clock) (a .from .now) (a .to .now) (a .types .now) (a .costs .now) (a .times .now) (a .delays .now) (a .spacings .now) (a .lasts .now) (a .near .now)) (put (placing (a .starts .now) (a .insts .now)) (a .op) (optionAt (a .s) (a .i))) ≡ c .links-hold .result
-lives t c = links-live (c .before .before .before .before .before .before .before .before .before .before .before .before .before .before .pre .1 .0) (c .before .before .before .before .before .before .before .before .free-at .ensures) (not-false _ (c .before .before .before .before .before .before .before .if1 .left)) (c .links-hold .ensures)
+    live (boardWith (a .n) (a .k) (a .t) (a .e) (a .wire) (a .clock) (a .from .now) (a .to .now) (a .types .now) (a .costs .now) (a .times .now) (a .delays .now) (a .spacings .now) (a .lasts .now) (a .near .now)) (put (placing (a .starts .now) (a .insts .now)) (a .op) (optionAt (a .s) (a .i))) ≡ c .links-kept .result
+lives t c = links-live (c .before .before .before .before .before .before .before .before .before .before .before .before .before .before .pre .1 .0) (c .before .before .before .before .before .before .before .before .free-at .ensures) (not-false _ (c .before .before .before .before .before .before .before .if1 .left)) _ (c .before .before .before .before .before .before .before .before .before .before .before .before .before .before .pre .1 .1) (c .links-kept .ensures)
 
 child-free-at-requires : ChildNeed child-lts.Need-free-at-requires
 child-free-at-requires t c κs = let z = child-small t (c .before .before .before .before .before) in (z .4, z .0, omega arith)
@@ -99,8 +100,8 @@ child-free-at-requires t c κs = let z = child-small t (c .before .before .befor
 child-returns : ChildNeed child-lts.Need-returns
 child-returns t c = kept (dead-read _ (taken-dead (c .before .before .before .before .before .before .before .pre .1 .0) (c .before .free-at .ensures) (not-true _ (c .if1 .taken))))
 
-child-links-hold-requires : ChildNeed child-lts.Need-links-hold-requires
-child-links-hold-requires t c κs = let w = c .before .before .before .before .before .before .before .before .before .before .before .before .before .pre .1 .0 in let z = child-small t (c .before .before .before .before .before .before .before .before .before .before .before .before .before) in (z .4, z .0, omega arith, w .able .starts-long, near-leads _ (w .able .of) _ (w .more))
+child-links-kept-requires : ChildNeed child-lts.Need-links-kept-requires
+child-links-kept-requires t c κs = let w = c .before .before .before .before .before .before .before .before .before .before .before .before .before .pre .1 .0 in let z = child-small t (c .before .before .before .before .before .before .before .before .before .before .before .before .before) in (z .4, z .0, omega arith, w .able .starts-long, near-leads _ (w .able .of) _ (w .more))
 
 child-returns-2 : ChildNeed child-lts.Need-returns-2
 child-returns-2 t c = kept (dead-read _ (lives t (c .before) ∙ not-true _ (c .if2 .taken)))
@@ -139,7 +140,7 @@ child-allowed-requires : ChildNeed child-lts.Need-allowed-requires
 child-allowed-requires t c κs = search needs
 
 child-closes-at-requires : ChildNeed child-lts.Need-closes-at-requires
-child-closes-at-requires t c κs = let w = c .before .before .before .before .before .before .before .before .before .before .before .before .before .before .before .before .before .before .before .before .before .before .before .before .pre .1 in omega (arith, w .1, w .2)
+child-closes-at-requires t c κs = let w = c .before .before .before .before .before .before .before .before .before .before .before .before .before .before .before .before .before .before .before .before .before .before .before .before .pre .1 in omega (arith, w .2, w .3)
 
 child-mul-lows-2 : ChildNeed child-lts.Need-mul-lows-2
 child-mul-lows-2 t c = let z = child-small t (c .before .before .before .before .before .before .before .before .before .before .before .before .before .before .before .before .before .before .before .before .before .before .before .before .before .before) in omega arith
@@ -147,8 +148,8 @@ child-mul-lows-2 t c = let z = child-small t (c .before .before .before .before 
 child-element-write-lows-2 : ChildNeed child-lts.Need-element-write-lows-2
 child-element-write-lows-2 t c = child-small t (c .before .before .before .before .before .before .before .before .before .before .before .before .before .before .before .before .before .before .before .before .before .before .before .before .before .before) .2
 
-child-add-t71 : ChildNeed child-lts.Need-add-t71
-child-add-t71 t c = let w = c .before .before .before .before .before .before .before .before .before .before .before .before .before .before .before .before .before .before .before .before .before .before .before .before .before .before .pre .1 in omega (arith, w .1, w .2)
+child-add-t72 : ChildNeed child-lts.Need-add-t72
+child-add-t72 t c = let w = c .before .before .before .before .before .before .before .before .before .before .before .before .before .before .before .before .before .before .before .before .before .before .before .before .before .before .pre .1 in omega (arith, w .2, w .3)
 
 child-returns-3 : ChildNeed child-lts.Need-returns-3
 child-returns-3 t c =
@@ -197,7 +198,7 @@ child-place-requires t c κs =
     let s = c .before .before .before .before .before .before .before .before .before .before .before .before .before .before .before .before .before .before .before .before .before .before .before .before .before .before .before .before .before .before .before .before in
     let w = s .pre .1 in
     let l = (lives t (c .before .before .before .before .before .before .before .before .before .before .before .before .before .before .before .before .before .before) ∙ not-false _ (c .before .before .before .before .before .before .before .before .before .before .before .before .before .before .before .before .before .if2 .left)) in
-    (omega (arith, s .pre .0), (next-ready (tries-places (w .0) l) _ (reach-up _ _ (c .before .before .before .farther .ensures)) (reach-over _ _ (c .before .before .before .farther .ensures)) (reach-below _ _ (c .before .before .before .farther .ensures) (w .0 .able .few) (w .0 .more)) refl (c .before .before .before .before .before .before .before .before .before .before .before .before .before .before .lower .ensures) (c .before .before .before .before .before .before .before .before .before .cost-with .ensures), w .1, w .2, w .3))
+    (omega (arith, s .pre .0), (next-ready (tries-places (w .0) l) _ (reach-up _ _ (c .before .before .before .farther .ensures)) (reach-over _ _ (c .before .before .before .farther .ensures)) (reach-below _ _ (c .before .before .before .farther .ensures) (w .0 .able .few) (w .0 .more)) refl (c .before .before .before .before .before .before .before .before .before .before .before .before .before .before .lower .ensures) (c .before .before .before .before .before .before .before .before .before .cost-with .ensures), w .2, w .3, w .4))
 
 child-mul-starts-2 : ChildNeed child-lts.Need-mul-starts-2
 child-mul-starts-2 t c = let z = child-small t (c .before .before .before .before .before .before .before .before .before .before .before .before .before .before .before .before .before .before .before .before .before .before .before .before .before .before .before .before .before .before .before .before .before) in omega arith
@@ -229,25 +230,27 @@ child-returns-4 t c =
 -- ---- place
 
 abbrev place-Inv-loop2 : place-lts.InvT-loop2
-place-Inv-loop2 n k t e wire clock from to types costs times delays spacings lasts near note width claim at left reach here starts₀ insts₀ lows₀ may split op fault next₀ s i₀ starts insts lows next i =
+place-Inv-loop2 n k t e wire clock from to types costs times delays spacings lasts near note width claim at left reach here starts₀ insts₀ lows₀ may split op fault next₀ first s i₀ starts insts lows next i =
     (1 ≤ s) × (s ≤ t) × (i ≤ k) × (next ≤ 8 * length note)
     × Stands (boardWith n k t e wire clock from to types costs times delays spacings lasts near) reach op here (placeAt note width (boardWith n k t e wire clock from to types costs times delays spacings lasts near) claim (left - 1)) (placing starts₀ insts₀) lows₀
     (inTurn (placeAt note width (boardWith n k t e wire clock from to types costs times delays spacings lasts near) claim (left - 1)) (liveOnes (boardWith n k t e wire clock from to types costs times delays spacings lasts near) (placing starts₀ insts₀) op (row (boardWith n k t e wire clock from to types costs times delays spacings lasts near) s i₀)) next₀)
     (placing starts insts) lows next (row (boardWith n k t e wire clock from to types costs times delays spacings lasts near) s i)
+    × (first ≡ firstStart delays near starts₀ insts₀ op op)
 
 abbrev place-μ-loop2 : place-lts.MeasureT-loop2
-place-μ-loop2 n k t e wire clock from to types costs times delays spacings lasts near note width claim at left reach here starts₀ insts₀ lows₀ may split op fault next₀ s i₀ starts insts lows next i =
+place-μ-loop2 n k t e wire clock from to types costs times delays spacings lasts near note width claim at left reach here starts₀ insts₀ lows₀ may split op fault next₀ first s i₀ starts insts lows next i =
     k - i
 
 abbrev place-Inv-loop : place-lts.InvT-loop
-place-Inv-loop n k t e wire clock from to types costs times delays spacings lasts near note width claim at left reach here starts₀ insts₀ lows₀ may split op fault next₀ s₀ starts insts lows next s =
+place-Inv-loop n k t e wire clock from to types costs times delays spacings lasts near note width claim at left reach here starts₀ insts₀ lows₀ may split op fault next₀ first s₀ starts insts lows next s =
     (1 ≤ s) × (next ≤ 8 * length note)
     × Stands (boardWith n k t e wire clock from to types costs times delays spacings lasts near) reach op here (placeAt note width (boardWith n k t e wire clock from to types costs times delays spacings lasts near) claim (left - 1)) (placing starts₀ insts₀) lows₀
     (inTurn (placeAt note width (boardWith n k t e wire clock from to types costs times delays spacings lasts near) claim (left - 1)) (liveOnes (boardWith n k t e wire clock from to types costs times delays spacings lasts near) (placing starts₀ insts₀) op (from-start (boardWith n k t e wire clock from to types costs times delays spacings lasts near) s₀)) next₀)
     (placing starts insts) lows next (from-start (boardWith n k t e wire clock from to types costs times delays spacings lasts near) s)
+    × (first ≡ firstStart delays near starts₀ insts₀ op op)
 
 abbrev place-μ-loop : place-lts.MeasureT-loop
-place-μ-loop n k t e wire clock from to types costs times delays spacings lasts near note width claim at left reach here starts₀ insts₀ lows₀ may split op fault next₀ s₀ starts insts lows next s =
+place-μ-loop n k t e wire clock from to types costs times delays spacings lasts near note width claim at left reach here starts₀ insts₀ lows₀ may split op fault next₀ first s₀ starts insts lows next s =
     t + 1 - s
 
 abbrev place-callees : ℕ → place-lts.Claims
@@ -336,8 +339,8 @@ place-mark-fault-requires t c κs = let w = c .before .before .before .before .b
 place-returns-2 : PlaceNeed place-lts.Need-returns-2
 place-returns-2 t c = kept (fault-place _ _ _ _ _ _ (may-close _ (c .before .before .before .before .before .before .before .allowed .ensures) (c .before .before .before .before .before .before .before .before .before .pre .1 .0)) (c .before .before .before .before .before .before .if1 .left) (c .before .mark-fault .ensures) (c .if2 .taken))
 
-place-add-t38 : PlaceNeed place-lts.Need-add-t38
-place-add-t38 t c = let w = c .before .before .before .before .before .before .before .before .before .before .pre .1 in omega (arith, w .1, w .2)
+place-add-t39 : PlaceNeed place-lts.Need-add-t39
+place-add-t39 t c = let w = c .before .before .before .before .before .before .before .before .before .before .pre .1 in omega (arith, w .1, w .2)
 
 place-returns-3 : PlaceNeed place-lts.Need-returns-3
 place-returns-3 t c = kept (close-place _ _ _ _ _ _ (may-close _ (c .before .before .before .before .before .before .before .before .allowed .ensures) (c .before .before .before .before .before .before .before .before .before .before .pre .1 .0)) (c .before .before .before .before .before .before .before .if1 .left) (c .before .before .mark-fault .ensures) (c .before .if2 .left) (sym (c .before .before .before .before .before .before .splits-at .ensures) ∙ not-true _ (c .if3 .taken)))
@@ -361,12 +364,13 @@ place-loop-holds t c =
       rw e (first-positive _ _ _ _ _ _),
       next-inside t (c .before .before .before .before),
       record { able = c .before .before .before .before .before .before .before .before .before .before .before .before .before .before .pre .1 .0; more = f .0; free = f .1; same = refl; same-lows = refl; leads = refl },
+      e,
     )
 
 place-loop2-holds : PlaceNeed place-lts.Need-loop2-holds
 place-loop2-holds t c =
     let v = c .before .loop .inv in
-    (v .0, c .loop-test .taken, omega arith, v .1, record { able = v .2 .able; more = v .2 .more; free = v .2 .free; same = refl; same-lows = refl; leads = refl })
+    (v .0, c .loop-test .taken, omega arith, v .1, record { able = v .2 .able; more = v .2 .more; free = v .2 .free; same = refl; same-lows = refl; leads = refl }, same-first _ _ _ (v .2 .same) (v .3))
 
 place-sub-child : PlaceNeed place-lts.Need-sub-child
 place-sub-child t c = omega (arith, c .before .before .before .before .before .before .before .before .before .before .before .before .before .before .before .if1 .left)
@@ -379,7 +383,13 @@ place-child-requires t c κs =
     let o = c .before .before .before .before .loop2 .inv in
     let s = c .before .before .before .before .before .before .before .before .before .before .before .before .before .before .before .before .before .before .before .before .before in (
       omega (arith, s .pre .0, c .before .before .before .before .before .before .before .before .before .before .before .before .before .before .before .before .before .before .if1 .left),
-      (record { able = o .4 .able; more = o .4 .more; free = o .4 .free; begins = o .0; unit = c .before .before .before .loop2-test .taken }, s .pre .1 .1, o .3, s .pre .1 .3),
+      (
+        record { able = o .4 .able; more = o .4 .more; free = o .4 .free; begins = o .0; unit = c .before .before .before .loop2-test .taken },
+        settles _ _ (same-first _ _ _ (o .4 .same) (o .5)),
+        s .pre .1 .1,
+        o .3,
+        s .pre .1 .3,
+      ),
     )
 
 place-enum-known-branch : PlaceNeed place-lts.Need-enum-known-branch
@@ -410,7 +420,7 @@ place-loop2-again t c =
     let l = c .before .before .before .before .before .before .before .loop2-test .taken in
     let r = c .before .before .before .child .ensures in
     let e = closed-turn _ (r .answers) (c .before .branch .given .1) in
-    (o .0, o .1, omega (arith, l), option-inside _ _ _ _ _ _ _ _ e (o .3), after-option _ _ (o .4) l e (r .same) (r .same-lows))
+    (o .0, o .1, omega (arith, l), option-inside _ _ _ _ _ _ _ _ e (o .3), after-option _ _ (o .4) l e (r .same) (r .same-lows), o .5)
 
 place-add-s : PlaceNeed place-lts.Need-add-s
 place-add-s t c = let z = few-steps _ (c .before .loop2 .inv .4 .able .of) in omega (arith, c .before .loop2 .inv .1)
@@ -420,7 +430,7 @@ place-loop-less t c = omega (arith, c .before .before .loop-test .taken)
 
 place-loop-again : PlaceNeed place-lts.Need-loop-again
 place-loop-again t c =
-    (omega arith, c .before .loop2 .inv .3, next-start _ _ (c .before .before .before .loop .inv .2) (c .before .before .loop-test .taken) (c .before .loop2 .inv .4) (c .loop2-test .left))
+    (omega arith, c .before .loop2 .inv .3, next-start _ _ (c .before .before .before .loop .inv .2) (c .before .before .loop-test .taken) (c .before .loop2 .inv .4) (c .loop2-test .left), c .before .before .before .loop .inv .3)
 
 place-returns-5 : PlaceNeed place-lts.Need-returns-5
 place-returns-5 t c =
@@ -436,7 +446,7 @@ pub +child+place-spec : {M : Type 1} → statement M
     child.Post
     (child-free-at-requires t)
     (child-returns t)
-    (child-links-hold-requires t)
+    (child-links-kept-requires t)
     (child-returns-2 t)
     (child-mul-y t)
     (child-element-copy-out-y t)
@@ -452,7 +462,7 @@ pub +child+place-spec : {M : Type 1} → statement M
     (child-closes-at-requires t)
     (child-mul-lows-2 t)
     (child-element-write-lows-2 t)
-    (child-add-t71 t)
+    (child-add-t72 t)
     (child-returns-3 t)
     (child-mul-start-was t)
     (child-element-copy-out-start-was t)
@@ -485,7 +495,7 @@ pub +child+place-spec : {M : Type 1} → statement M
     (place-split-op-requires t)
     (place-mark-fault-requires t)
     (place-returns-2 t)
-    (place-add-t38 t)
+    (place-add-t39 t)
     (place-returns-3 t)
     (place-add-next t)
     (place-add-next-2 t)
