@@ -1,5 +1,5 @@
 -- What the proof of the house writer needs: how the sheet begins, and the promise at each of its ends.
-use Prim.Native.Nat.{ℕ, _+_, _-_, _*_, _/_, _≤_, _<_, min}
+use Prim.Native.Nat.{ℕ, _+_, _-_, _*_, _≤_, _<_}
 use mathlib.Core.Path.{_≡_, refl, sym, ap, _∙_}
 use mathlib.Core.List.{List, _++_}
 use native.Mathlib.Omega.{arith}
@@ -17,7 +17,7 @@ use Rattle.sheets.specs.Limits.{formBits}
 use Rattle.sheets.specs.declared.Job.{Job}
 use Rattle.sheets.specs.declared.Written.{Written}
 use Rattle.sheets.specs.declared.Written.the-variants.{Wrote, Refused as Unwritten}
-use Rattle.placing.specs.Board.{OfJob, WasRead, boardOf}
+use Rattle.placing.specs.Board.{WasRead, boardOf}
 use Rattle.placing.specs.Closing.{Turn, goes, stops, andThen, goesIf}
 use Rattle.placing.specs.Options.{none}
 use Rattle.placing.specs.Placing.{Placing}
@@ -25,7 +25,7 @@ use Rattle.placing.specs.declared.Board.{Board}
 use Rattle.placing.specs.declared.Claim.{Claim}
 use Rattle.placing.proofs.BoardLaws.{board-read}
 use Rattle.notes.specs.Check.{asked}
-use Rattle.notes.specs.NoteSheet.{noteForm, verdictBits, noteHead, splitBits, maxNote, headFields, marks, noteFields}
+use Rattle.notes.specs.NoteSheet.{noteForm, verdictBits, noteHead, splitBits, maxNote, headFields, marks}
 use Rattle.notes.specs.Reading.{branchOf}
 use Rattle.notes.specs.declared.Asked.{Asked}
 use Rattle.notes.specs.declared.Branch.{Branch}
@@ -33,7 +33,7 @@ use Rattle.notes.specs.declared.Branch.the-variants.{Closed, Refused}
 use Rattle.notes.specs.declared.Claimed.the-variants.{Claims, Refused as Unclaimed}
 use Rattle.house.specs.House.{houseTreeOf, houseFields, roomOf, stoppedBy, writtenBy, outBy, writeClaim, claimOut, writeNote, noteOut}
 use Rattle.house.specs.Writing.{Draft, draft, drafted, writeAt, draftFrom, draftEnd, InOrder, Writes, Drafts}
-use Rattle.house.proofs.DraftLaws.{draftOf, mapped, draft-from, front-pack}
+use Rattle.house.proofs.DraftLaws.{mapped, draft-from, front-pack}
 use Rattle.house.proofs.HouseBoard.{house-widths}
 use Rattle.house.proofs.NoteWritten.{fields-written}
 use Rattle.house.proofs.WriteLaws.{closed-draft, refused-draft, put-length}

@@ -1,5 +1,5 @@
 -- What a function that places one more row can say of it. The code's test is whether the option is live: `fits-ready`, in whatever
--- order rows are placed, and `fits-settled` and `fits-in-order` in number order. With the row the board is ready for the next one: `next-ready`; with
+-- order rows are placed, `fits-settled` and `fits-in-order` in number order, and `taken-dead` and `links-live` where its two halves are asked. With the row the board is ready for the next one: `next-ready`; with
 -- nothing placed it is: `none-ready`. A row that is taken back leaves what was there: `restored`, `rows-back`.
 use Prim.Native.Nat.{ℕ, _≤_, _<_, min}
 use mathlib.Core.Path.{_≡_, refl, sym, ap, ap₂, _∙_}

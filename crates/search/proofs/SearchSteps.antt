@@ -16,7 +16,6 @@ use Rattle.sheets.specs.declared.Plan.{Plan}
 use Rattle.sheets.specs.declared.JobRead.{JobRead}
 use Rattle.sheets.specs.declared.Reading.the-variants.{Read, Refused as Unread}
 use Rattle.sheets.specs.declared.Written.{Written}
-use Rattle.rules.specs.Model.{instCount}
 use Rattle.placing.specs.Bound.{State, tick}
 use Rattle.placing.specs.Board.{boardOf}
 use Rattle.placing.proofs.BoardLaws.{read-limits}

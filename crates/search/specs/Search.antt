@@ -1,7 +1,6 @@
 -- What the search answers for any bytes and any budget, and the output's bytes after it: `search` and `searchOut`;
 -- `searchedSays` gives each case in numbers. `walked` is the walk of document 01, from nothing placed and nothing held.
 use Prim.Native.Nat.{ℕ}
-use mathlib.Core.Path.{_≡_}
 use mathlib.Core.Bool.{Bool, true, false, _&&_}
 use mathlib.Core.List.{List}
 use lib.Dec.{leb}

@@ -3,7 +3,7 @@ use Rattle.house.proofs.writing.copy_front.Statement.{statement}
 use Rattle.house.proofs.writing.copy_front.Tie as tie
 use Prim.Native.Nat.{_-_, _≤_}
 use mathlib.Core.List.{_++_}
-use mathlib.Core.Path.{_≡_, refl, _∙_}
+use mathlib.Core.Path.{_≡_, refl}
 use native.Mathlib.Omega.{arith}
 use borrow.Author.Needs.{needs}
 use lib.ListN.{length, take, drop, length-set}
