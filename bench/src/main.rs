@@ -18,7 +18,8 @@ struct Benchmark {
     /// What is counted, and for whom beside the library.
     what: &'static str,
     peer: &'static str,
-    /// What is asked of the library's speed beside the peer's.
+    /// The library's speed beside the peer's below which something is wrong. Against C one half is asked, on a machine that does
+    /// nothing else; a busy one measures up to a fifth less.
     least_ratio: f64,
     /// A name and the speeds for each line.
     lines: fn() -> Vec<(String, Speeds)>,
@@ -36,14 +37,14 @@ const BENCHMARKS: [Benchmark; 3] = [
         word: "search",
         what: "visits",
         peer: "C",
-        least_ratio: 0.5,
+        least_ratio: 0.4,
         lines: search::run,
     },
     Benchmark {
         word: "note",
         what: "marks",
         peer: "C",
-        least_ratio: 0.5,
+        least_ratio: 0.4,
         lines: note::run,
     },
 ];
