@@ -18,8 +18,8 @@ struct Benchmark {
     /// What is counted, and for whom beside the library.
     what: &'static str,
     peer: &'static str,
-    /// The library's speed beside the peer's below which something is wrong. Against C one half is asked, on a machine that does
-    /// nothing else; a busy one measures up to a fifth less.
+    /// The library's speed beside the peer's below which something is wrong. Against C one half is asked, and runs of one build
+    /// differ by up to a quarter.
     least_ratio: f64,
     /// A name and the speeds for each line.
     lines: fn() -> Vec<(String, Speeds)>,
