@@ -1,5 +1,5 @@
-/* Tolmupung: job and plan sheets, read and written exactly, plans judged, the cheapest plan searched for, and closing notes
- * checked and written.
+/* Tolmupung: job and plan sheets, read and written exactly, plans judged, slid and tidied, the cheapest plan searched for,
+ * closing notes checked and written, and dossiers of all three checked.
  *
  * Every entry takes any bytes and any numbers, and ends. A refusal gives its number and the paper at fault,
  * and changes no output byte. Nothing here allocates, and nothing is kept between calls.
@@ -27,7 +27,8 @@ enum {
     TOLMUPUNG_PAIR_CELLS = TOLMUPUNG_TYPE_CELLS * TOLMUPUNG_KINDS,
     TOLMUPUNG_JOB_BYTES = 274,
     TOLMUPUNG_PLAN_BYTES = 31,
-    TOLMUPUNG_NOTE_BYTES = 60000
+    TOLMUPUNG_NOTE_BYTES = 60000,
+    TOLMUPUNG_DOSSIER_BYTES = 65536
 };
 
 /* What an answer can be. */
@@ -60,6 +61,8 @@ enum {
     TOLMUPUNG_PRECEDENCE_BROKEN = 16,
     TOLMUPUNG_RESOURCE_BROKEN = 17,
     TOLMUPUNG_CHAIN_BROKEN = 18,
+    TOLMUPUNG_DISTANCE_FAR = 20,       /* outside -31 to 31 */
+    TOLMUPUNG_MOVED_OUT = 21,          /* a moved start below 1, or its finish behind T */
     TOLMUPUNG_OUTPUT_SHORT = 22,
     TOLMUPUNG_BUDGET_SPENT = 30,       /* the search needs more visits than its budget */
     TOLMUPUNG_NO_PLAN = 31,            /* no plan meets the rules */
@@ -67,7 +70,9 @@ enum {
     TOLMUPUNG_VERDICT_DIFFERS = 41,    /* 1 without a plan, or 0 with one */
     TOLMUPUNG_SPLIT_BROKEN = 42,       /* on a number not below N, or on an operation already placed */
     TOLMUPUNG_CLOSE_BROKEN = 43,       /* bit 0 not allowed */
-    TOLMUPUNG_CHEAPER = 44             /* all placed and cheaper than the claim, or under verdict 0 */
+    TOLMUPUNG_CHEAPER = 44,            /* all placed and cheaper than the claim, or under verdict 0 */
+    TOLMUPUNG_LENGTHS_DIFFER = 50,     /* the papers' lengths do not total the dossier's */
+    TOLMUPUNG_DOSSIER_LONG = 51        /* over 65,536 bytes */
 };
 
 /* The paper at fault. */
@@ -153,6 +158,22 @@ tolmupung_answer tolmupung_check_note(const uint8_t *job, size_t job_len, const 
 tolmupung_answer tolmupung_write_note(const uint8_t *job, size_t job_len, const uint8_t *plan, size_t plan_len, uint8_t *out,
                                       size_t out_len);
 
+/* Slides a passed plan: written with the length of the sheet of the plan with the distance added to every start, whose bytes
+ * begin the output; the bytes behind them stay as they were. Else no byte of it changes: refused by the judge's numbers, then
+ * by 20 (paper 4), 21 (paper 1) or 22. A slid plan passes, at the same cost. */
+tolmupung_answer tolmupung_slide(const uint8_t *job, size_t job_len, const uint8_t *plan, size_t plan_len, int32_t distance,
+                                 uint8_t *out, size_t out_len);
+
+/* Tidies a plan that the judge refuses by nothing but possibly 11: each type's selected instances move to its last numbers,
+ * their order kept, and the rows follow. Written as above, or refused by the judge's numbers but for 11, or by 22. A tidied plan
+ * passes; its cost is that of the selection lent, its starts are those lent. */
+tolmupung_answer tolmupung_tidy(const uint8_t *job, size_t job_len, const uint8_t *plan, size_t plan_len, uint8_t *out,
+                                size_t out_len);
+
+/* The check of a dossier: its job, plan and note, checked as tolmupung_check_note does. Before that it is refused (paper 3) by
+ * 51, 1 (under 7 bytes), 2, 6 or 50. */
+tolmupung_answer tolmupung_check_dossier(const uint8_t *dossier, size_t dossier_len);
+
 #ifdef __cplusplus
 }
 #endif
@@ -217,6 +238,25 @@ static inline tolmupung_answer tolmupung_safe_write_note(const uint8_t *job, siz
                                 tolmupung_into(out), out ? out_len : 0);
 }
 
+static inline tolmupung_answer tolmupung_safe_slide(const uint8_t *job, size_t job_len, const uint8_t *plan, size_t plan_len,
+                                                    int32_t distance, uint8_t *out, size_t out_len)
+{
+    return tolmupung_slide(tolmupung_from(job), job ? job_len : 0, tolmupung_from(plan), plan ? plan_len : 0, distance,
+                           tolmupung_into(out), out ? out_len : 0);
+}
+
+static inline tolmupung_answer tolmupung_safe_tidy(const uint8_t *job, size_t job_len, const uint8_t *plan, size_t plan_len,
+                                                   uint8_t *out, size_t out_len)
+{
+    return tolmupung_tidy(tolmupung_from(job), job ? job_len : 0, tolmupung_from(plan), plan ? plan_len : 0,
+                          tolmupung_into(out), out ? out_len : 0);
+}
+
+static inline tolmupung_answer tolmupung_safe_check_dossier(const uint8_t *dossier, size_t dossier_len)
+{
+    return tolmupung_check_dossier(tolmupung_from(dossier), dossier ? dossier_len : 0);
+}
+
 #define tolmupung_read_job tolmupung_safe_read_job
 #define tolmupung_read_plan tolmupung_safe_read_plan
 #define tolmupung_write_job tolmupung_safe_write_job
@@ -225,5 +265,8 @@ static inline tolmupung_answer tolmupung_safe_write_note(const uint8_t *job, siz
 #define tolmupung_search tolmupung_safe_search
 #define tolmupung_check_note tolmupung_safe_check_note
 #define tolmupung_write_note tolmupung_safe_write_note
+#define tolmupung_slide tolmupung_safe_slide
+#define tolmupung_tidy tolmupung_safe_tidy
+#define tolmupung_check_dossier tolmupung_safe_check_dossier
 
 #endif

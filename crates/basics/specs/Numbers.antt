@@ -57,6 +57,14 @@ resourceBroken = 17
 abbrev pub chainBroken : ℕ
 chainBroken = 18
 
+-- a slide's distance outside −31 to 31
+abbrev pub distanceFar : ℕ
+distanceFar = 20
+
+-- a moved start below 1, or its finish behind T
+abbrev pub movedOut : ℕ
+movedOut = 21
+
 abbrev pub outputShort : ℕ
 outputShort = 22
 
@@ -88,6 +96,14 @@ closeBroken = 43
 abbrev pub cheaper : ℕ
 cheaper = 44
 
+-- a dossier's lengths do not total its bytes
+abbrev pub lengthsDiffer : ℕ
+lengthsDiffer = 50
+
+-- a dossier over 65,536 bytes
+abbrev pub dossierLong : ℕ
+dossierLong = 51
+
 -- ---- papers
 
 abbrev pub paperJob : ℕ
@@ -98,6 +114,9 @@ paperPlan = 1
 
 abbrev pub paperNote : ℕ
 paperNote = 2
+
+abbrev pub paperDossier : ℕ
+paperDossier = 3
 
 abbrev pub paperRequest : ℕ
 paperRequest = 4

@@ -39,6 +39,10 @@ pub const RESOURCE_BROKEN: u32 = 17;
 
 pub const CHAIN_BROKEN: u32 = 18;
 
+pub const DISTANCE_FAR: u32 = 20;
+
+pub const MOVED_OUT: u32 = 21;
+
 pub const OUTPUT_SHORT: u32 = 22;
 
 pub const BUDGET_SPENT: u32 = 30;
@@ -55,12 +59,18 @@ pub const CLOSE_BROKEN: u32 = 43;
 
 pub const CHEAPER: u32 = 44;
 
+pub const LENGTHS_DIFFER: u32 = 50;
+
+pub const DOSSIER_LONG: u32 = 51;
+
 // The numbers of papers.
 pub const PAPER_JOB: u32 = 0;
 
 pub const PAPER_PLAN: u32 = 1;
 
 pub const PAPER_NOTE: u32 = 2;
+
+pub const PAPER_DOSSIER: u32 = 3;
 
 pub const PAPER_REQUEST: u32 = 4;
 

@@ -1,7 +1,7 @@
 -- Laws of the judge's answer.
 use Prim.Native.Nat.{ℕ, zero, suc}
 use mathlib.Core.Path.{_≡_, refl, sym, ap, _∙_}
-use mathlib.Core.Bool.{Bool}
+use mathlib.Core.Bool.{Bool, not, _||_}
 use mathlib.Core.List.{List}
 use borrow.Author.Tests.{eqb-true}
 use lib.Dec.{eqb, lit<}
@@ -19,26 +19,27 @@ use Rattle.sheets.specs.declared.Plan.{Plan}
 use Rattle.rules.specs.Model.{instCount, typesOf, timingIn}
 use Rattle.rules.specs.Selection.{selected, orderOk, selectionCost}
 use Rattle.rules.specs.Rules.{rowsFault}
-use Rattle.rules.specs.Judge.{countsFault, placingFault, judgeFault, planCost, passOr, judged, ifRead, judge}
+use Rattle.rules.specs.Judge.{countsFault, placingFault, faultIf, planCost, passOr, judgedIf, ifRead, judgeIf, lent}
 use Rattle.rules.specs.declared.Timing.{Timing}
 use Rattle.rules.specs.declared.Judged.{Judged}
 use Rattle.rules.specs.declared.Judged.the-variants.{Refused}
+use Rattle.rules.specs.declared.Lent.{Lent}
 
-pub counts-agree : (j : Job) (p : Plan) → judgeFault j p ≡ 0 → (p .n ≡ j .n) × (p .k ≡ instCount j)
-unfolding judgeFault countsFault
-counts-agree j p h =
+pub counts-agree : (order : Bool) (j : Job) (p : Plan) → faultIf order j p ≡ 0 → (p .n ≡ j .n) × (p .k ≡ instCount j)
+unfolding faultIf countsFault
+counts-agree order j p h =
     let a = and-both (eqb (p .n) (j .n)) (eqb (p .k) (instCount j)) (unless-none _ countsDiffer (lit< tt) (orElse-none _ _ h .0)) in
     (eqb-true _ _ (a .0), eqb-true _ _ (a .1))
 
 -- the tests of a job and a plan, one by one
-pub fault-is : (j : Job) (p : Plan) (k : ℕ) (types : List ℕ) (timing : Timing) (counts ordered rows placing fault : ℕ) (order : Bool)
+pub fault-is : (order : Bool) (j : Job) (p : Plan) (k : ℕ) (types : List ℕ) (timing : Timing) (counts ordered rows placing fault : ℕ) (inOrder : Bool)
     → k ≡ instCount j → types ≡ typesOf j → timing ≡ timingIn types (j .clock) (j .kinds) (j .times) (j .intervals) (p .insts)
-    → counts ≡ countsFault (p .n) (p .k) (j .n) k → order ≡ orderOk types (p .selection) k
+    → counts ≡ countsFault (p .n) (p .k) (j .n) k → inOrder ≡ orderOk types (p .selection) k
     → rows ≡ rowsFault (j .n) k (j .t) (p .starts) (p .insts) (timing .times) (timing .delays) (p .selection)
     → placing ≡ placingFault (j .n) (j .e) (j .wire) (j .clock) (j .from) (j .to) (p .starts) (p .insts) timing
-    → ordered ≡ faultUnless order orderBroken → fault ≡ counts orElse (ordered orElse (rows orElse placing)) → fault ≡ judgeFault j p
-unfolding judgeFault
-fault-is j p k types timing counts ordered rows placing fault order ek et em ec eo er ep ef e =
+    → ordered ≡ faultUnless (not order || inOrder) orderBroken → fault ≡ counts orElse (ordered orElse (rows orElse placing)) → fault ≡ faultIf order j p
+unfolding faultIf
+fault-is order j p k types timing counts ordered rows placing fault inOrder ek et em ec eo er ep ef e =
     e ∙ rw (ef, ec, eo, er, ep, em, et, ek)
 
 pub refused-by : (fault cost : ℕ) → (fault ≡ 0 → ⊥) → Refused fault paperPlan ≡ passOr fault cost
@@ -47,26 +48,34 @@ refused-by zero cost h = absurd (h refl)
 refused-by (suc k) cost h = refl
 
 -- where the counts agree, the plan's K instances are the job's
-pub judged-is : (j : Job) (p : Plan) (fault cost : ℕ) (v : Judged) → fault ≡ judgeFault j p → cost ≡ selectionCost (j .costs) (typesOf j) (selected (p .selection)) (p .k)
-    → v ≡ passOr fault cost → v ≡ judged j p
-unfolding judged passOr planCost
-judged-is j p zero cost v e d h =
-    let k = d ∙ ap (selectionCost (j .costs) (typesOf j) (selected (p .selection))) (counts-agree j p (sym e) .1) in
+pub judged-is : (order : Bool) (j : Job) (p : Plan) (fault cost : ℕ) (v : Judged) → fault ≡ faultIf order j p → cost ≡ selectionCost (j .costs) (typesOf j) (selected (p .selection)) (p .k)
+    → v ≡ passOr fault cost → v ≡ judgedIf order j p
+unfolding judgedIf passOr planCost
+judged-is order j p zero cost v e d h =
+    let k = d ∙ ap (selectionCost (j .costs) (typesOf j) (selected (p .selection))) (counts-agree order j p (sym e) .1) in
     h ∙ ap (λ (c : ℕ). passOr 0 c) k ∙ ap (λ (f : ℕ). passOr f (planCost j p)) e
-judged-is j p (suc k) cost v e d h = h ∙ ap (λ (f : ℕ). passOr f (planCost j p)) e
+judged-is order j p (suc k) cost v e d h = h ∙ ap (λ (f : ℕ). passOr f (planCost j p)) e
 
 -- ---- a paper that cannot be read ends the question there
 
-module _ (job plan : List ℕ) (j : JobRead) (ej : j ≡ readJob job) where
-  pub unread-job : (n q : ℕ) (v : Judged) → j .answer ≡ Unread n q → v ≡ ifRead (j .answer) (Refused 0 0) → v ≡ judge job plan
-  unfolding judge ifRead
-  unread-job n q v e h = (rw e at h) ∙ sym (rw (← ej, e))
+module _ (order : Bool) (job plan : List ℕ) (j : JobRead) (p : PlanRead) (ej : j ≡ readJob job) (ep : p ≡ readPlan plan) where
+  -- what is lent, where the answer is v
+  abbrev lentWith : Judged → Lent
+  lentWith v = record { judged = v; job = j .job; plan = p .plan }
 
-  module _ (p : PlanRead) (ep : p ≡ readPlan plan) (rj : j .answer ≡ Read) where
-    pub unread-plan : (n q : ℕ) (v : Judged) → p .answer ≡ Unread n q → v ≡ ifRead (p .answer) (Refused 0 0) → v ≡ judge job plan
-    unfolding judge ifRead
-    unread-plan n q v e h = (rw e at h) ∙ sym (rw (← ej, ← ep, rj, e))
+  -- where the judge's answer is v
+  lent-is : (v : Judged) → v ≡ judgeIf order job plan → lentWith v ≡ lent order job plan
+  unfolding lent
+  lent-is v e = rw (e, ej, ep)
 
-    pub both-read : (v : Judged) → p .answer ≡ Read → v ≡ judged (j .job) (p .plan) → v ≡ judge job plan
-    unfolding judge ifRead
-    both-read v e h = h ∙ sym (rw (← ej, ← ep, rj, e))
+  pub unread-job : (n q : ℕ) (v : Judged) → j .answer ≡ Unread n q → v ≡ ifRead (j .answer) (Refused 0 0) → lentWith v ≡ lent order job plan
+  unfolding judgeIf ifRead
+  unread-job n q v e h = lent-is v ((rw e at h) ∙ sym (rw (← ej, e)))
+
+  pub unread-plan : j .answer ≡ Read → (n q : ℕ) (v : Judged) → p .answer ≡ Unread n q → v ≡ ifRead (p .answer) (Refused 0 0) → lentWith v ≡ lent order job plan
+  unfolding judgeIf ifRead
+  unread-plan rj n q v e h = lent-is v ((rw e at h) ∙ sym (rw (← ej, ← ep, rj, e)))
+
+  pub both-read : j .answer ≡ Read → p .answer ≡ Read → (v : Judged) → v ≡ judgedIf order (j .job) (p .plan) → lentWith v ≡ lent order job plan
+  unfolding judgeIf ifRead
+  both-read rj e v h = lent-is v (h ∙ sym (rw (← ej, ← ep, rj, e)))

@@ -1,6 +1,7 @@
--- What the judge answers for any bytes: `judge`; `judgedSays` gives each case in numbers.
+-- What the judge answers for any bytes: `judge`; `judgedSays` gives each case in numbers. `judgeIf` asks selection order or not,
+-- and `lent` has the records beside its answer: what is done with a plan that was judged starts from there.
 use Prim.Native.Nat.{ℕ, zero, suc}
-use mathlib.Core.Bool.{_&&_}
+use mathlib.Core.Bool.{Bool, true, not, _||_, _&&_}
 use mathlib.Core.List.{List}
 use lib.Dec.{eqb}
 use Rattle.basics.specs.Answers.{refusedSays}
@@ -19,6 +20,7 @@ use Rattle.rules.specs.Rules.{rowsFault, precedenceOk, resourceOk, chain
 use Rattle.rules.specs.declared.Timing.{Timing}
 use Rattle.rules.specs.declared.Judged.{Judged}
 use Rattle.rules.specs.declared.Judged.the-variants.{Passed, Refused}
+use Rattle.rules.specs.declared.Lent.{Lent}
 
 -- ---- the first rule that a plan breaks, 0 where it breaks none
 
@@ -33,13 +35,17 @@ placingFault n e wire clock from to starts insts timing =
     faultUnless (resourceOk n starts insts (timing .spacings)) resourceBroken orElse
     faultUnless (chainsOk from to e wire clock starts (timing .times)) chainBroken
 
-unfoldable pub judgeFault : Job → Plan → ℕ
-judgeFault j p =
+-- of all rules, with selection order or without
+unfoldable pub faultIf : Bool → Job → Plan → ℕ
+faultIf order j p =
     let timing = timingOf j (p .insts) in
     countsFault (p .n) (p .k) (j .n) (instCount j) orElse
-    faultUnless (orderOk (typesOf j) (p .selection) (instCount j)) orderBroken orElse
+    faultUnless (not order || orderOk (typesOf j) (p .selection) (instCount j)) orderBroken orElse
     rowsFault (j .n) (instCount j) (j .t) (p .starts) (p .insts) (timing .times) (timing .delays) (p .selection) orElse
     placingFault (j .n) (j .e) (j .wire) (j .clock) (j .from) (j .to) (p .starts) (p .insts) timing
+
+unfoldable pub judgeFault : Job → Plan → ℕ
+judgeFault j p = faultIf true j p
 
 unfoldable pub planCost : Job → Plan → ℕ
 planCost j p = selectionCost (j .costs) (typesOf j) (selected (p .selection)) (instCount j)
@@ -51,17 +57,27 @@ unfoldable pub passOr : ℕ → ℕ → Judged
 passOr zero cost = Passed cost
 passOr (suc k) cost = Refused (suc k) paperPlan
 
+unfoldable pub judgedIf : Bool → Job → Plan → Judged
+judgedIf order j p = passOr (faultIf order j p) (planCost j p)
+
 unfoldable pub judged : Job → Plan → Judged
-judged j p = passOr (judgeFault j p) (planCost j p)
+judged j p = judgedIf true j p
 
 -- a paper that cannot be read ends the question there (`Unread` is the readers' `Refused`)
 unfoldable pub ifRead : Reading → Judged → Judged
 ifRead Read next = next
 ifRead (Unread number paper) next = Refused number paper
 
+unfoldable pub judgeIf : Bool → List ℕ → List ℕ → Judged
+judgeIf order job plan =
+    ifRead (readJob job .answer) (ifRead (readPlan plan .answer) (judgedIf order (readJob job .job) (readPlan plan .plan)))
+
 unfoldable pub judge : List ℕ → List ℕ → Judged
-judge job plan =
-    ifRead (readJob job .answer) (ifRead (readPlan plan .answer) (judged (readJob job .job) (readPlan plan .plan)))
+judge job plan = judgeIf true job plan
+
+-- with the records beside the answer, of zeros where a paper cannot be read
+unfoldable pub lent : Bool → List ℕ → List ℕ → Lent
+lent order job plan = record { judged = judgeIf order job plan; job = readJob job .job; plan = readPlan plan .plan }
 
 -- ---- each case in its numbers
 

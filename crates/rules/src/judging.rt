@@ -1,8 +1,9 @@
 // The judge: a plan passes exactly when it meets every rule.
 ghost use mathlib.Core.Path.{_≡_};
-ghost use Rattle.rules.specs.Judge.{countsFault, placingFault, passOr, judged as judgedBy, ifRead, judge as judgeOf, judgedSays as saysOf};
+ghost use Rattle.rules.specs.Judge.{countsFault, placingFault, passOr, judgedIf, judged as judgedBy, ifRead, lent as lentOf, judge as judgeOf, judgedSays as saysOf};
 ghost use Rattle.rules.specs.declared.Judged.the-variants.{Refused};
 use crate::Judged;
+use crate::Lent;
 use crate::Timing;
 use crate::chains::chains_ok;
 use crate::model::inst_count;
@@ -68,9 +69,9 @@ fn pass_or(fault: u32, cost: u32) -> Judged
     }
 }
 
-// A plan passes at its cost, or is refused by the first rule that it breaks.
-pub fn judged(job: Job, plan: Plan) -> Judged
-    ensures { λ r. ⌜ r ≡ judgedBy job plan ⌝ }
+// A plan passes at its cost, or is refused by the first rule that it breaks, with selection order asked or not.
+pub fn judged_if(order: bool, job: Job, plan: Plan) -> Judged
+    ensures { λ r. ⌜ r ≡ judgedIf order job plan ⌝ }
 {
     let n = job.n;
     let k = inst_count(&job.copies, job.m);
@@ -84,7 +85,7 @@ pub fn judged(job: Job, plan: Plan) -> Judged
         &plan.insts,
     );
     let counts = counts_fault(plan.n, plan.k, n, k);
-    let order = order_ok(&types, &plan.selection, k);
+    let in_order = order_ok(&types, &plan.selection, k);
     let rows = rows_fault(
         n,
         k,
@@ -106,11 +107,18 @@ pub fn judged(job: Job, plan: Plan) -> Judged
         &plan.insts,
         timing,
     );
-    let ordered = fault_unless(order, basics::ORDER_BROKEN);
+    let ordered = fault_unless(!order | in_order, basics::ORDER_BROKEN);
     let fault = or_else(counts, or_else(ordered, or_else(rows, placing)));
     // plan.k is k where the plan passes, and its 16 bits keep the sum in range
     let cost = selection_cost(&job.costs, &types, &plan.selection, plan.k);
     pass_or(fault, cost)
+}
+
+// A plan passes at its cost, or is refused by the first rule that it breaks.
+pub fn judged(job: Job, plan: Plan) -> Judged
+    ensures { λ r. ⌜ r ≡ judgedBy job plan ⌝ }
+{
+    judged_if(true, job, plan)
 }
 
 // The answer on a paper that could not be read; none that was read comes here.
@@ -126,23 +134,43 @@ fn unread(answer: Reading) -> Judged
     }
 }
 
-// Judges a plan sheet against a job sheet. A paper that cannot be read ends the question there.
+// Reads a job sheet and a plan sheet, and judges the plan. A paper that cannot be read ends the question there.
+pub fn lend(order: bool, job: &[u8], plan: &[u8]) -> Lent
+    ensures { λ r. ⌜ r ≡ lentOf order (now (job .entry)) (now (plan .entry)) ⌝ }
+{
+    let job_read = read_job(job);
+    let plan_read = read_plan(plan);
+    let job_answer = job_read.answer;
+    let plan_answer = plan_read.answer;
+    let job_record = job_read.job;
+    let plan_record = plan_read.plan;
+    let Reading::Read = job_answer else {
+        return Lent {
+            judged: unread(job_answer),
+            job: job_record,
+            plan: plan_record,
+        };
+    };
+    let Reading::Read = plan_answer else {
+        return Lent {
+            judged: unread(plan_answer),
+            job: job_record,
+            plan: plan_record,
+        };
+    };
+    Lent {
+        judged: judged_if(order, job_record, plan_record),
+        job: job_record,
+        plan: plan_record,
+    }
+}
+
+// Judges a plan sheet against a job sheet.
 pub fn judge(job: &[u8], plan: &[u8]) -> Judged
     ensures { λ r. ⌜ r ≡ judgeOf (now (job .entry)) (now (plan .entry)) ⌝ }
 {
-    let job_read = read_job(job);
-    let job_answer = job_read.answer;
-    let Reading::Read = job_answer else {
-        return unread(job_answer);
-    };
-    let plan_read = read_plan(plan);
-    let plan_answer = plan_read.answer;
-    let Reading::Read = plan_answer else {
-        return unread(plan_answer);
-    };
-    let job_record = job_read.job;
-    let plan_record = plan_read.plan;
-    judged(job_record, plan_record)
+    let lent = lend(true, job, plan);
+    lent.judged
 }
 
 pub fn judged_says(answer: Judged) -> Answer

@@ -26,3 +26,10 @@ pub enum Judged {
     Passed { cost: u32 },
     Refused { number: u32, paper: u32 },
 }
+
+// The judge's answer, beside the job and the plan that were read.
+pub struct Lent {
+    pub judged: Judged,
+    pub job: sheets::Job,
+    pub plan: sheets::Plan,
+}

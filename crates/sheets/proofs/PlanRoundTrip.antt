@@ -8,7 +8,9 @@ use native.Mathlib.Omega.{arith}
 use lib.ListN.{length, take, drop}
 use Rattle.basics.specs.Answers.{Promise}
 use Rattle.basics.specs.Numbers.{paperPlan, recordBroken}
-use Rattle.basics.specs.Tables.{cells, within}
+use Rattle.basics.specs.Counting.{allTo}
+use Rattle.basics.specs.Faults.{_orElse_, faultUnless}
+use Rattle.basics.specs.Tables.{cells, within, blank}
 use Rattle.basics.proofs.CountLaws.{both-and}
 use Rattle.basics.proofs.FaultLaws.{orElse-none, none-orElse, none-unless, orElse-go}
 use Rattle.basics.proofs.TableLaws.{cell-cells, blank-cells, each-within}
@@ -18,7 +20,7 @@ use Rattle.bits.proofs.FieldLaws.{field-lt}
 use Rattle.bits.proofs.SheetLaws.{Holds, holds-pack, pack-holds, fill-pack, length-pack, holds-append, append-holds}
 use Rattle.sheets.specs.Limits.{opCells, instCells, planForm, maxOps, maxInsts, maxSelect, maxSteps, maxInst, selectBits, stepBits, instBits, rowBits, planHead}
 use Rattle.sheets.specs.Columns.{columnAt, single, double}
-use Rattle.sheets.specs.PlanSheet.{PlanShape, rowsAt, planEnd, opsIn, instsIn, planOf, planIn, planCountsFault, planHeadFault, planBodyFault, planFault, planAnswer, readPlan, planFits, planRecordFault, planFields, planSheet, writePlan, planOut}
+use Rattle.sheets.specs.PlanSheet.{PlanShape, rowsAt, planEnd, opsIn, instsIn, planOf, planIn, planCountsFault, planHeadFault, planBodyFault, planFault, noPlan, planAnswer, readPlan, planFits, planRecordFault, planFields, planSheet, writePlan, planOut}
 use Rattle.sheets.specs.declared.Plan.{Plan}
 use Rattle.sheets.specs.declared.PlanRead.{PlanRead}
 use Rattle.sheets.specs.declared.Reading.the-variants.{Read, Refused}
@@ -163,6 +165,19 @@ pub plan-written-read : (s : List ℕ) (p : Plan) → Bytes s → readPlan s ≡
 plan-written-read s p hs e =
     let r = read-plan s p e in
     rw (r .1) (sheet-again s (r .0) hs, record-none s (r .0))
+
+-- what any bytes are read as, a plan or zeros, can be written
+none-sound : planRecordFault noPlan ≡ 0
+unfolding planRecordFault planCountsFault planFits noPlan within blank allTo faultUnless _orElse_
+none-sound = refl
+
+pub plan-read-sound : (s : List ℕ) → planRecordFault (readPlan s .plan) ≡ 0
+unfolding readPlan planAnswer
+plan-read-sound s = go (planFault s) refl
+  where
+    go : (k : ℕ) → planFault s ≡ k → planRecordFault (planAnswer k (planIn s) .plan) ≡ 0
+    go zero q = record-none s q
+    go (suc k) q = none-sound
 
 -- ---- the same of the entries' promises
 

@@ -1,0 +1,4 @@
+pub mod Moving
+pub mod Slide
+pub mod Tidy
+pub mod Moved
