@@ -1,58 +1,63 @@
-/* A first use of the library: document 01's job P is read, damaged and written back, and plans for it are judged. */
+/* A first use of the library: for document 01's job P a plan drawn by hand is judged, the cheapest one is searched for
+ * and its closing note written, and job, plan and note are packed into a dossier and checked there. */
 #include <stdio.h>
 #include <string.h>
 
 #include "tolmupung.h"
 
-static const uint8_t job_p[54] = {
+static const uint8_t job[54] = {
     0x11, 0x82, 0x21, 0x8c, 0x80, 0x29, 0x20, 0x02, 0x08, 0x80, 0x02, 0x90, 0x50, 0x14, 0x00, 0x00, 0x00, 0x00,
     0x00, 0x00, 0x00, 0x00, 0x00, 0x00, 0x00, 0x00, 0x00, 0x00, 0x00, 0x00, 0x00, 0x00, 0x00, 0xf1, 0x00, 0x00,
     0x01, 0x68, 0x5a, 0x00, 0x00, 0x00, 0x00, 0x00, 0x00, 0x00, 0x00, 0x00, 0x00, 0x00, 0x00, 0x00, 0x00, 0x00,
 };
 
-/* Case 1: selection 0 1 1, rows (1,2) (2,2) (3,1). Case 4: selection 1 0 1. Case 5: units, and no operations. */
-static const uint8_t plan_1[6] = {0x21, 0x8d, 0x84, 0x84, 0x43, 0x10};
-static const uint8_t plan_4[6] = {0x21, 0x8e, 0x84, 0x84, 0x43, 0x10};
-static const uint8_t plan_5[3] = {0x20, 0x0d, 0x80};
+/* Both adders are selected, and one of them is not used: rows (1,2) (2,2) (3,0). */
+static const uint8_t drawn[6] = {0x21, 0x8f, 0x84, 0x84, 0x43, 0x00};
 
-static void tell(const char *what, tolmupung_answer answer)
+/* A dossier begins with its form and four zero bits in one byte, and with the lengths of the papers in two bytes each. */
+enum { PAPERS = 3, DOSSIER_FORM = 0x40, DOSSIER_HEADER = 1 + 2 * PAPERS };
+
+/* Whether the answer is what was hoped for. If not, it says why. */
+static int gave(uint32_t outcome, tolmupung_answer answer, const char *step)
 {
-    if (answer.outcome == TOLMUPUNG_REFUSED)
-        printf("%-22s refused by %u, paper %u\n", what, answer.number, answer.paper);
-    else if (answer.outcome == TOLMUPUNG_READ)
-        printf("%-22s read\n", what);
-    else if (answer.outcome == TOLMUPUNG_PASSED)
-        printf("%-22s passed, cost %u\n", what, answer.cost);
-    else
-        printf("%-22s written, %u bytes\n", what, answer.length);
+    if (answer.outcome != outcome)
+        printf("%s: number %u, paper %u\n", step, answer.number, answer.paper);
+    return answer.outcome == outcome;
 }
 
 int main(void)
 {
-    tolmupung_job_read read = tolmupung_read_job(job_p, sizeof job_p);
-    tell("job P", read.answer);
-    printf("  %u operations, %u links, %u types, deadline %u, clock %u ns, wire %u ns\n", read.job.n, read.job.e,
-           read.job.m, read.job.t, read.job.clock, read.job.wire);
+    static uint8_t plan[TOLMUPUNG_PLAN_BYTES], note[TOLMUPUNG_NOTE_BYTES], dossier[TOLMUPUNG_DOSSIER_BYTES];
 
-    uint8_t damaged[sizeof job_p];
-    memcpy(damaged, job_p, sizeof job_p);
-    damaged[6] |= 0x01; /* link 0 now runs from operation 8, and there are three */
-    tell("its link broken", tolmupung_read_job(damaged, sizeof damaged).answer);
-    tell("its last byte lost", tolmupung_read_job(job_p, sizeof job_p - 1).answer);
-    tell("no bytes at all", tolmupung_read_job(NULL, 0).answer);
+    tolmupung_answer judged = tolmupung_judge(job, sizeof job, drawn, sizeof drawn);
+    if (gave(TOLMUPUNG_PASSED, judged, "the plan drawn is refused"))
+        printf("the plan drawn passes, cost %u\n", judged.cost);
 
-    uint8_t sheet[TOLMUPUNG_JOB_BYTES];
-    tolmupung_answer written = tolmupung_write_job(read.job, sheet, sizeof sheet);
-    tell("written back", written);
-    printf("  %s\n", written.length == sizeof job_p && memcmp(sheet, job_p, sizeof job_p) == 0 ? "the same bytes"
-                                                                                              : "other bytes");
-    tell("into 53 bytes", tolmupung_write_job(read.job, sheet, 53));
-    read.job.kinds[23] = 1; /* a cell that three operations do not use */
-    tell("an unused cell set", tolmupung_write_job(read.job, sheet, sizeof sheet));
+    tolmupung_answer found = tolmupung_search(job, sizeof job, UINT32_MAX, plan, sizeof plan);
+    if (!gave(TOLMUPUNG_FOUND, found, "no plan is found"))
+        return 1;
+    printf("the cheapest plan costs %u, found in %u visits\n", found.cost, found.visits);
 
-    tell("plan of case 1", tolmupung_judge(job_p, sizeof job_p, plan_1, sizeof plan_1));
-    tell("other adder selected", tolmupung_judge(job_p, sizeof job_p, plan_4, sizeof plan_4));
-    tell("units, no operations", tolmupung_judge(job_p, sizeof job_p, plan_5, sizeof plan_5));
-    tell("no plan", tolmupung_judge(job_p, sizeof job_p, NULL, 0));
+    tolmupung_answer written = tolmupung_write_note(job, sizeof job, plan, found.length, note, sizeof note);
+    if (!gave(TOLMUPUNG_WRITTEN, written, "no note is written"))
+        return 1;
+    printf("its closing note has %u bytes\n", written.length);
+
+    const uint8_t *papers[PAPERS] = {job, plan, note};
+    const size_t lengths[PAPERS] = {sizeof job, found.length, written.length};
+    size_t end = DOSSIER_HEADER; /* the longest job, plan and note leave room in a dossier */
+    dossier[0] = DOSSIER_FORM;
+    for (int i = 0; i < PAPERS; i++) {
+        dossier[1 + 2 * i] = (uint8_t)(lengths[i] >> 8);
+        dossier[2 + 2 * i] = (uint8_t)lengths[i];
+        memcpy(dossier + end, papers[i], lengths[i]);
+        end += lengths[i];
+    }
+    printf("the dossier has %zu bytes\n", end);
+
+    tolmupung_answer checked = tolmupung_check_dossier(dossier, end);
+    if (!gave(TOLMUPUNG_CHEAPEST, checked, "the dossier is refused"))
+        return 1;
+    printf("checked: no plan costs less than %u\n", checked.cost);
     return 0;
 }

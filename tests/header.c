@@ -44,6 +44,11 @@ static void numbers(void)
               TOLMUPUNG_CLOSE_BROKEN == 43 && TOLMUPUNG_CHEAPER == 44,
           "the numbers of notes");
     check(TOLMUPUNG_PAPER_NOTE == 2 && TOLMUPUNG_NOTE_BYTES == 60000, "the paper and the length of notes");
+    check(TOLMUPUNG_DISTANCE_FAR == 20 && TOLMUPUNG_MOVED_OUT == 21 && TOLMUPUNG_OUTPUT_SHORT == 22,
+          "the numbers of slides");
+    check(TOLMUPUNG_LENGTHS_DIFFER == 50 && TOLMUPUNG_DOSSIER_LONG == 51, "the numbers of dossiers");
+    check(TOLMUPUNG_PAPER_DOSSIER == 3 && TOLMUPUNG_PAPER_REQUEST == 4 && TOLMUPUNG_DOSSIER_BYTES == 65536,
+          "the paper and the length of dossiers");
 }
 
 /* A job whose every used cell differs from its neighbours, so that no two tables can be taken for one another. */
@@ -271,6 +276,114 @@ static void checking_notes(void)
           "without steps there is no plan");
 }
 
+/* Slides the plan of one operation, whose sheet has four bytes. */
+static tolmupung_answer slid(int32_t distance, uint8_t *out, size_t out_len)
+{
+    return tolmupung_slide(job, job_len, plan, plan_len, distance, out, out_len);
+}
+
+/* The operation takes one of the nine steps. */
+static void sliding(void)
+{
+    static const uint8_t before[6] = {9, 9, 9, 9, 9, 9};
+    uint8_t out[6] = {9, 9, 9, 9, 9, 9};
+    tolmupung_plan_read last;
+    lend(9);
+    check(refuses(slid(9, out, sizeof out), TOLMUPUNG_MOVED_OUT, TOLMUPUNG_PAPER_PLAN), "slid behind the deadline");
+    check(refuses(slid(-1, out, sizeof out), TOLMUPUNG_MOVED_OUT, TOLMUPUNG_PAPER_PLAN), "slid before step 1");
+    check(refuses(slid(32, out, sizeof out), TOLMUPUNG_DISTANCE_FAR, TOLMUPUNG_PAPER_REQUEST), "slid by 32");
+    check(refuses(slid(INT32_MIN, out, sizeof out), TOLMUPUNG_DISTANCE_FAR, TOLMUPUNG_PAPER_REQUEST),
+          "slid by the least distance");
+    check(refuses(slid(0, out, 3), TOLMUPUNG_OUTPUT_SHORT, TOLMUPUNG_PAPER_REQUEST), "slid into three bytes");
+    check(refuses(slid(0, NULL, 9), TOLMUPUNG_OUTPUT_SHORT, TOLMUPUNG_PAPER_REQUEST), "slid into NULL");
+    check(refuses(tolmupung_slide(NULL, 9, plan, plan_len, 0, out, sizeof out), TOLMUPUNG_BITS_RUN_OUT,
+                  TOLMUPUNG_PAPER_JOB),
+          "slid beside NULL as a job");
+    check(refuses(tolmupung_slide(job, job_len, NULL, 9, 0, out, sizeof out), TOLMUPUNG_BITS_RUN_OUT,
+                  TOLMUPUNG_PAPER_PLAN),
+          "NULL slid as a plan");
+    check(memcmp(out, before, sizeof out) == 0, "without a plan slid the output stays");
+    check(answers(slid(0, out, sizeof out), TOLMUPUNG_WRITTEN, 0, 0, 4) && memcmp(out, plan, 4) == 0 &&
+              memcmp(out + 4, before, 2) == 0,
+          "slid by 0 the plan begins the output, and the rest stays");
+    check(answers(slid(8, out, sizeof out), TOLMUPUNG_WRITTEN, 0, 0, 4), "slid by 8");
+    last = tolmupung_read_plan(out, 4);
+    check(last.plan.starts[0] == 9 && last.plan.insts[0] == 6 && last.plan.selection[6] == 1,
+          "the start moved by 8, and nothing else did");
+}
+
+/* Document 01's job P, and plans for it. Case 4's last row is on an adder that is not selected, the untidy plan's on the
+ * one that is. */
+static const uint8_t job_p[54] = {
+    0x11, 0x82, 0x21, 0x8c, 0x80, 0x29, 0x20, 0x02, 0x08, 0x80, 0x02, 0x90, 0x50, 0x14, 0x00, 0x00, 0x00, 0x00,
+    0x00, 0x00, 0x00, 0x00, 0x00, 0x00, 0x00, 0x00, 0x00, 0x00, 0x00, 0x00, 0x00, 0x00, 0x00, 0xf1, 0x00, 0x00,
+    0x01, 0x68, 0x5a, 0x00, 0x00, 0x00, 0x00, 0x00, 0x00, 0x00, 0x00, 0x00, 0x00, 0x00, 0x00, 0x00, 0x00, 0x00,
+};
+static const uint8_t plan_1[6] = {0x21, 0x8d, 0x84, 0x84, 0x43, 0x10};
+static const uint8_t plan_4[6] = {0x21, 0x8e, 0x84, 0x84, 0x43, 0x10};
+static const uint8_t untidy[6] = {0x21, 0x8e, 0x84, 0x84, 0x43, 0x00};
+
+static void tidying(void)
+{
+    static const uint8_t before[7] = {9, 9, 9, 9, 9, 9, 9};
+    uint8_t out[7] = {9, 9, 9, 9, 9, 9, 9};
+    check(refuses(tolmupung_judge(job_p, sizeof job_p, untidy, sizeof untidy), TOLMUPUNG_ORDER_BROKEN,
+                  TOLMUPUNG_PAPER_PLAN),
+          "the untidy plan breaks selection order");
+    check(refuses(tolmupung_tidy(job_p, sizeof job_p, plan_4, sizeof plan_4, out, sizeof out), TOLMUPUNG_ROW_UNSELECTED,
+                  TOLMUPUNG_PAPER_PLAN),
+          "case 4's plan breaks another rule too");
+    check(refuses(tolmupung_tidy(NULL, 9, untidy, sizeof untidy, out, sizeof out), TOLMUPUNG_BITS_RUN_OUT,
+                  TOLMUPUNG_PAPER_JOB),
+          "tidied beside NULL as a job");
+    check(refuses(tolmupung_tidy(job_p, sizeof job_p, NULL, 9, out, sizeof out), TOLMUPUNG_BITS_RUN_OUT,
+                  TOLMUPUNG_PAPER_PLAN),
+          "NULL tidied as a plan");
+    check(refuses(tolmupung_tidy(job_p, sizeof job_p, untidy, sizeof untidy, out, 5), TOLMUPUNG_OUTPUT_SHORT,
+                  TOLMUPUNG_PAPER_REQUEST),
+          "tidied into five bytes");
+    check(refuses(tolmupung_tidy(job_p, sizeof job_p, untidy, sizeof untidy, NULL, 9), TOLMUPUNG_OUTPUT_SHORT,
+                  TOLMUPUNG_PAPER_REQUEST),
+          "tidied into NULL");
+    check(memcmp(out, before, sizeof out) == 0, "without a plan tidied the output stays");
+    check(answers(tolmupung_tidy(job_p, sizeof job_p, untidy, sizeof untidy, out, sizeof out), TOLMUPUNG_WRITTEN, 0, 0, 6),
+          "a plan is tidied");
+    check(memcmp(out, plan_1, 6) == 0 && out[6] == 9, "tidied it is case 1's plan, and the rest of the output stays");
+    check(answers(tolmupung_tidy(job_p, sizeof job_p, plan_1, sizeof plan_1, out, sizeof out), TOLMUPUNG_WRITTEN, 0, 0,
+                  6) &&
+              memcmp(out, plan_1, 6) == 0,
+          "case 1's plan is left as it is");
+}
+
+/* Case 12, and the same with its first byte or its length changed. */
+static void checking_dossiers(void)
+{
+    static const uint8_t case_12[16] = {0x40, 0, 6, 0, 2, 0, 1, 0x10, 0, 0, 0, 0x20, 0, 0x20, 0, 0x38};
+    static uint8_t dossier[TOLMUPUNG_DOSSIER_BYTES + 1];
+    check(answers(tolmupung_check_dossier(case_12, sizeof case_12), TOLMUPUNG_CHEAPEST, 0, 0, 0),
+          "case 12 is cheapest at 0");
+    memcpy(dossier, case_12, sizeof case_12);
+    check(refuses(tolmupung_check_dossier(NULL, 9), TOLMUPUNG_BITS_RUN_OUT, TOLMUPUNG_PAPER_DOSSIER),
+          "NULL checked as a dossier");
+    check(refuses(tolmupung_check_dossier(dossier, 6), TOLMUPUNG_BITS_RUN_OUT, TOLMUPUNG_PAPER_DOSSIER),
+          "a dossier of six bytes");
+    check(refuses(tolmupung_check_dossier(dossier, 15), TOLMUPUNG_LENGTHS_DIFFER, TOLMUPUNG_PAPER_DOSSIER),
+          "a dossier that lacks its last byte");
+    check(refuses(tolmupung_check_dossier(dossier, sizeof dossier - 1), TOLMUPUNG_LENGTHS_DIFFER, TOLMUPUNG_PAPER_DOSSIER),
+          "bytes follow the papers");
+    check(refuses(tolmupung_check_dossier(dossier, sizeof dossier), TOLMUPUNG_DOSSIER_LONG, TOLMUPUNG_PAPER_DOSSIER),
+          "a dossier of 65,537 bytes");
+    dossier[0] = 0x41;
+    check(refuses(tolmupung_check_dossier(dossier, 16), TOLMUPUNG_FILL_BROKEN, TOLMUPUNG_PAPER_DOSSIER),
+          "a bit set behind the form");
+    dossier[0] = 0x30;
+    check(refuses(tolmupung_check_dossier(dossier, 16), TOLMUPUNG_FORM_DIFFERS, TOLMUPUNG_PAPER_DOSSIER),
+          "a note's form is no dossier's");
+    dossier[0] = 0x40, dossier[4] = 0, memmove(dossier + 13, dossier + 15, 1);
+    check(refuses(tolmupung_check_dossier(dossier, 14), TOLMUPUNG_VERDICT_DIFFERS, TOLMUPUNG_PAPER_NOTE),
+          "a dossier without a plan, and a note for one");
+}
+
 static void nothing(void)
 {
     size_t length;
@@ -300,6 +413,9 @@ int main(void)
     searching();
     writing_notes();
     checking_notes();
+    sliding();
+    tidying();
+    checking_dossiers();
     nothing();
     return failed;
 }

@@ -2,7 +2,7 @@
 
 use crate::job::Job;
 use crate::judge::{broken_rules, judge_plan};
-use crate::plan::{Plan, Row, LARGEST_INSTANCE, LARGEST_START};
+use crate::plan::{selection_of, Plan, Row, LARGEST_INSTANCE, LARGEST_START};
 use crate::search::Best;
 
 /// Of the plans that pass, the cheapest; of these the one whose rows come first, operation by operation, by start and
@@ -40,9 +40,8 @@ fn for_every_plan(job: &Job, mut judge: impl FnMut(&Plan)) {
     let mut rows = Vec::new();
     for_all_rows(&choices, &mut rows, &mut |rows| {
         for bits in 0..1u32 << job.instances() {
-            let selected = |instance| (bits >> instance) & 1 == 1;
             judge(&Plan {
-                selection: (0..job.instances()).map(selected).collect(),
+                selection: selection_of(bits, job.instances()),
                 rows: rows.to_vec(),
             });
         }

@@ -6,6 +6,11 @@ pub fn digits_of(bytes: &[u8]) -> String {
     pairs.join(" ")
 }
 
+/// How many bytes there are, and their digits.
+pub fn counted(bytes: &[u8]) -> String {
+    format!("{} bytes: {}", bytes.len(), digits_of(bytes))
+}
+
 /// Spaces may stand anywhere between the digits. None where the text is no whole number of bytes in hex.
 pub fn bytes_of(text: &str) -> Option<Vec<u8>> {
     let mut digits = Vec::new();
@@ -33,6 +38,7 @@ mod tests {
         assert_eq!(digits_of(&bytes), "00 0a f5 ff");
         assert_eq!(bytes_of("00 0a F5ff"), Some(bytes.to_vec()));
         assert_eq!(bytes_of(""), Some(Vec::new()));
+        assert_eq!(counted(&bytes), "4 bytes: 00 0a f5 ff");
     }
 
     #[test]

@@ -2,7 +2,7 @@
 
 use crate::job::Job;
 use crate::plan::Plan;
-use crate::refusal::{Fault, Paper, Refusal};
+use crate::refusal::{Fault, Refusal};
 use crate::rules::{
     broken_by_row, chain_holds, cost, counts_are_equal, places, precedence_holds, resource_holds,
     selection_order_holds,
@@ -11,12 +11,13 @@ use crate::sheet::Form;
 
 /// The cost of the plan, or the first refusal: the job reader's, the plan reader's, or a rule's.
 pub fn judge(job_sheet: &[u8], plan_sheet: &[u8]) -> Result<u32, Refusal> {
-    let job = Job::read(job_sheet)?;
-    let plan = Plan::read(plan_sheet)?;
-    judge_plan(&job, &plan).map_err(|fault| Refusal {
-        fault,
-        paper: Paper::Plan,
-    })
+    let (job, plan) = read_both(job_sheet, plan_sheet)?;
+    judge_plan(&job, &plan).map_err(Refusal::of_plan)
+}
+
+/// The job and the plan, or the refusal of the first that cannot be read.
+pub fn read_both(job_sheet: &[u8], plan_sheet: &[u8]) -> Result<(Job, Plan), Refusal> {
+    Ok((Job::read(job_sheet)?, Plan::read(plan_sheet)?))
 }
 
 pub fn judge_plan(job: &Job, plan: &Plan) -> Result<u32, Fault> {
@@ -77,6 +78,7 @@ mod tests {
     use crate::job::Link;
     use crate::planned::pairs;
     use crate::random::Random;
+    use crate::refusal::Paper;
     use crate::samples::{
         empty_job, empty_plan, full_job, job_p, plan_of, plan_of_case_1, plan_of_size,
         unit_for_one_kind,

@@ -2,6 +2,7 @@
 
 use crate::job::Job;
 use crate::note::check::Proved;
+use crate::note::NOTE_BYTES;
 use crate::plan::Plan;
 use crate::record::{JobRecord, PlanRecord, Record};
 use crate::refusal::{Paper, Refusal};
@@ -9,14 +10,23 @@ use crate::search::Searched;
 use crate::sheet::Form;
 use std::mem::{align_of, offset_of, size_of};
 
-const REFUSED: u32 = 0;
-const PASSED: u32 = 1;
-const FOUND: u32 = 2;
-const NONE: u32 = 3;
-const SPENT: u32 = 4;
-const CHEAPEST: u32 = 5;
-const WRITTEN: u32 = 6;
-const READ: u32 = 7;
+pub const REFUSED: u32 = 0;
+pub const PASSED: u32 = 1;
+pub const FOUND: u32 = 2;
+pub const NONE: u32 = 3;
+pub const SPENT: u32 = 4;
+pub const CHEAPEST: u32 = 5;
+pub const WRITTEN: u32 = 6;
+pub const READ: u32 = 7;
+
+/// The names of the outcomes, by their number.
+pub const OUTCOMES: [&str; 8] = [
+    "refused", "passed", "found", "none", "spent", "cheapest", "written", "read",
+];
+
+/// The most bytes that a sheet has.
+const JOB_BYTES: usize = 274;
+pub const PLAN_BYTES: usize = 31;
 
 #[repr(C)]
 #[derive(Clone, Copy, Debug, PartialEq, Eq)]
@@ -45,7 +55,7 @@ const _: () = {
 };
 
 impl Answer {
-    const NOTHING: Answer = Answer {
+    pub const NOTHING: Answer = Answer {
         outcome: REFUSED,
         number: 0,
         paper: 0,
@@ -135,6 +145,11 @@ impl Answer {
         self.number != 0
     }
 
+    /// An output was written, by a writer, slide or tidy.
+    pub fn is_written(&self) -> bool {
+        self.outcome == WRITTEN
+    }
+
     /// There is no plan: the search's outcome, or what a note proves.
     pub fn is_none(&self) -> bool {
         self.outcome == NONE
@@ -186,6 +201,24 @@ extern "C" {
         out: *mut u8,
         out_len: usize,
     ) -> Answer;
+    fn tolmupung_slide(
+        job: *const u8,
+        job_len: usize,
+        plan: *const u8,
+        plan_len: usize,
+        distance: i32,
+        out: *mut u8,
+        out_len: usize,
+    ) -> Answer;
+    fn tolmupung_tidy(
+        job: *const u8,
+        job_len: usize,
+        plan: *const u8,
+        plan_len: usize,
+        out: *mut u8,
+        out_len: usize,
+    ) -> Answer;
+    fn tolmupung_check_dossier(dossier: *const u8, dossier_len: usize) -> Answer;
 }
 
 #[derive(Clone, Copy, Debug, PartialEq, Eq, PartialOrd, Ord)]
@@ -198,6 +231,9 @@ pub enum Entry {
     Search,
     CheckNote,
     WriteNote,
+    Slide,
+    Tidy,
+    CheckDossier,
 }
 
 /// A paper, and the numbers that an entry can give with it.
@@ -208,9 +244,10 @@ const PLAN_JUDGED: Refusals = (
     Paper::Plan,
     &[1, 2, 3, 6, 10, 11, 12, 13, 14, 15, 16, 17, 18],
 );
+const NOTE_CHECKED: Refusals = (Paper::Note, &[1, 2, 6, 40, 41, 42, 43, 44]);
 
 impl Entry {
-    pub const ALL: [Entry; 8] = [
+    pub const ALL: [Entry; 11] = [
         Entry::ReadJob,
         Entry::WriteJob,
         Entry::ReadPlan,
@@ -219,6 +256,9 @@ impl Entry {
         Entry::Search,
         Entry::CheckNote,
         Entry::WriteNote,
+        Entry::Slide,
+        Entry::Tidy,
+        Entry::CheckDossier,
     ];
 
     pub fn name(self) -> &'static str {
@@ -231,6 +271,36 @@ impl Entry {
             Entry::Search => "search",
             Entry::CheckNote => "note check",
             Entry::WriteNote => "note writer",
+            Entry::Slide => "slide",
+            Entry::Tidy => "tidy",
+            Entry::CheckDossier => "dossier check",
+        }
+    }
+
+    /// The outcomes that the entry can give.
+    pub fn outcomes(self) -> &'static [u32] {
+        match self {
+            Entry::ReadJob | Entry::ReadPlan => &[REFUSED, READ],
+            Entry::Judge => &[REFUSED, PASSED],
+            Entry::Search => &[REFUSED, FOUND, NONE, SPENT],
+            Entry::CheckNote | Entry::CheckDossier => &[REFUSED, NONE, CHEAPEST],
+            Entry::WriteJob | Entry::WritePlan | Entry::WriteNote | Entry::Slide | Entry::Tidy => {
+                &[REFUSED, WRITTEN]
+            }
+        }
+    }
+
+    /// The most bytes that the entry writes.
+    pub fn most_written(self) -> usize {
+        match self {
+            Entry::WriteJob => JOB_BYTES,
+            Entry::WriteNote => NOTE_BYTES,
+            Entry::WritePlan | Entry::Search | Entry::Slide | Entry::Tidy => PLAN_BYTES,
+            Entry::ReadJob
+            | Entry::ReadPlan
+            | Entry::Judge
+            | Entry::CheckNote
+            | Entry::CheckDossier => 0,
         }
     }
 
@@ -246,16 +316,29 @@ impl Entry {
                 (Paper::Job, &[1, 2, 3, 4, 5, 6, 31]),
                 (Paper::Request, &[22, 30]),
             ],
-            Entry::CheckNote => &[
-                JOB_READ,
-                PLAN_JUDGED,
-                (Paper::Note, &[1, 2, 6, 40, 41, 42, 43, 44]),
-            ],
+            Entry::CheckNote => &[JOB_READ, PLAN_JUDGED, NOTE_CHECKED],
             Entry::WriteNote => &[
                 JOB_READ,
                 PLAN_JUDGED,
                 (Paper::Note, &[44]),
                 (Paper::Request, &[22]),
+            ],
+            Entry::Slide => &[
+                JOB_READ,
+                PLAN_JUDGED,
+                (Paper::Plan, &[21]),
+                (Paper::Request, &[20, 22]),
+            ],
+            Entry::Tidy => &[
+                JOB_READ,
+                (Paper::Plan, &[1, 2, 3, 6, 10, 12, 13, 14, 15, 16, 17, 18]),
+                (Paper::Request, &[22]),
+            ],
+            Entry::CheckDossier => &[
+                (Paper::Dossier, &[1, 2, 6, 50, 51]),
+                JOB_READ,
+                PLAN_JUDGED,
+                NOTE_CHECKED,
             ],
         }
     }
@@ -318,4 +401,48 @@ pub fn write_note_by_library(job: &[u8], plan: &[u8], out: &mut [u8]) -> Answer 
     let papers = [job, plan].map(|paper| (paper.as_ptr(), paper.len()));
     let [(job, job_len), (plan, plan_len)] = papers;
     unsafe { tolmupung_write_note(job, job_len, plan, plan_len, out.as_mut_ptr(), out.len()) }
+}
+
+/// The entry that slides a plan.
+pub fn slide_by_library(job: &[u8], plan: &[u8], distance: i32, out: &mut [u8]) -> Answer {
+    let papers = [job, plan].map(|paper| (paper.as_ptr(), paper.len()));
+    let [(job, job_len), (plan, plan_len)] = papers;
+    let (out, out_len) = (out.as_mut_ptr(), out.len());
+    unsafe { tolmupung_slide(job, job_len, plan, plan_len, distance, out, out_len) }
+}
+
+/// The entry that tidies a plan.
+pub fn tidy_by_library(job: &[u8], plan: &[u8], out: &mut [u8]) -> Answer {
+    let papers = [job, plan].map(|paper| (paper.as_ptr(), paper.len()));
+    let [(job, job_len), (plan, plan_len)] = papers;
+    unsafe { tolmupung_tidy(job, job_len, plan, plan_len, out.as_mut_ptr(), out.len()) }
+}
+
+/// The entry that checks a dossier.
+pub fn check_dossier_by_library(dossier: &[u8]) -> Answer {
+    unsafe { tolmupung_check_dossier(dossier.as_ptr(), dossier.len()) }
+}
+
+#[cfg(test)]
+mod tests {
+    use super::*;
+    use std::collections::BTreeSet;
+
+    /// The table of document 01.
+    #[test]
+    fn every_number_can_be_given_by_an_entry() {
+        let refusals = Entry::ALL.iter().flat_map(|entry| entry.refusals());
+        let numbers: BTreeSet<u32> = refusals
+            .flat_map(|(_, numbers)| *numbers)
+            .copied()
+            .collect();
+        let of_document_01: Vec<u32> = (1..=7)
+            .chain(10..=18)
+            .chain(20..=22)
+            .chain([30, 31])
+            .chain(40..=44)
+            .chain([50, 51])
+            .collect();
+        assert_eq!(Vec::from_iter(numbers), of_document_01);
+    }
 }

@@ -24,6 +24,11 @@ pub struct Row {
     pub instance: u16,
 }
 
+/// The selection of `k` instances whose bits these are, instance 0 the lowest.
+pub fn selection_of(bits: u32, k: usize) -> Vec<bool> {
+    (0..k).map(|instance| (bits >> instance) & 1 == 1).collect()
+}
+
 fn check_limits(n: usize, k: usize) -> Result<(), Fault> {
     if n > MAX_OPERATIONS || k > MAX_INSTANCES {
         return Err(Fault::OutsideLimit);

@@ -18,6 +18,8 @@ pub enum Fault {
     Precedence = 16,
     Resource = 17,
     Chain = 18,
+    DistanceFar = 20,
+    MovedOut = 21,
     OutputTooShort = 22,
     BudgetSpent = 30,
     NoPlan = 31,
@@ -26,6 +28,8 @@ pub enum Fault {
     SplitBroken = 42,
     CloseBroken = 43,
     Cheaper = 44,
+    LengthsDiffer = 50,
+    DossierLong = 51,
 }
 
 #[derive(Clone, Copy, Debug, PartialEq, Eq)]
@@ -33,6 +37,7 @@ pub enum Paper {
     Job = 0,
     Plan = 1,
     Note = 2,
+    Dossier = 3,
     Request = 4,
 }
 
@@ -58,8 +63,23 @@ impl Refusal {
         paper: Paper::Job,
     };
 
+    pub const DISTANCE_FAR: Refusal = Refusal {
+        fault: Fault::DistanceFar,
+        paper: Paper::Request,
+    };
+
+    pub fn of_plan(fault: Fault) -> Refusal {
+        let paper = Paper::Plan;
+        Refusal { fault, paper }
+    }
+
     pub fn of_note(fault: Fault) -> Refusal {
         let paper = Paper::Note;
+        Refusal { fault, paper }
+    }
+
+    pub fn of_dossier(fault: Fault) -> Refusal {
+        let paper = Paper::Dossier;
         Refusal { fault, paper }
     }
 
@@ -96,6 +116,8 @@ impl Refusal {
                 "chain: for operations joined by successive links and all started in one step, \
                  the times plus one wire for each link total more than the clock"
             }
+            Fault::DistanceFar => "slide distance outside -31 to 31",
+            Fault::MovedOut => "a moved start below 1, or its finish above T",
             Fault::OutputTooShort => "output too short",
             Fault::BudgetSpent => "visits exceed the budget",
             Fault::NoPlan => "no plan meets the rules",
@@ -106,6 +128,8 @@ impl Refusal {
             }
             Fault::CloseBroken => "bit 0 not allowed: the cost is below the claim, or verdict 0",
             Fault::Cheaper => "all placed and cheaper than the claim, or verdict 0",
+            Fault::LengthsDiffer => "lengths do not total the dossier",
+            Fault::DossierLong => "dossier over 65,536 bytes",
         }
     }
 }

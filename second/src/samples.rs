@@ -61,6 +61,14 @@ pub fn plan_of_case_1() -> Plan {
     plan_of(&[0, 1, 1], &[(1, 2), (2, 2), (3, 1)])
 }
 
+/// No operations and no types, the plan that goes with them, and a note that has nothing to prove.
+pub fn dossier_of_case_12() -> Vec<u8> {
+    vec![
+        0x40, 0x00, 0x06, 0x00, 0x02, 0x00, 0x01, 0x10, 0x00, 0x00, 0x00, 0x20, 0x00, 0x20, 0x00,
+        0x38,
+    ]
+}
+
 /// A plan from its selection bits and its rows, start and instance each.
 pub fn plan_of(selection: &[u16], rows: &[(u16, u16)]) -> Plan {
     let rows = rows

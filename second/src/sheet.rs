@@ -34,11 +34,8 @@ pub trait Form: Sized {
 
     /// The sheet of a record, for an output of `room` bytes.
     fn write(record: &Self::Record, room: usize) -> Result<Vec<u8>, Refusal> {
-        let sheet = Self::of_record(record).map_err(refused::<Self>)?.sheet();
-        if sheet.len() > room {
-            return Err(Refusal::OUTPUT_TOO_SHORT);
-        }
-        Ok(sheet)
+        let held = Self::of_record(record).map_err(refused::<Self>)?;
+        fitted(held.sheet(), room)
     }
 
     fn header(&self) -> Vec<Field> {
@@ -66,6 +63,14 @@ fn read_whole<F: Form>(sheet: &[u8]) -> Result<F, Fault> {
         return Err(Fault::Fill);
     }
     Ok(held)
+}
+
+/// The sheet, where an output of `room` bytes has room for it.
+pub fn fitted(sheet: Vec<u8>, room: usize) -> Result<Vec<u8>, Refusal> {
+    if sheet.len() > room {
+        return Err(Refusal::OUTPUT_TOO_SHORT);
+    }
+    Ok(sheet)
 }
 
 fn refused<F: Form>(fault: Fault) -> Refusal {

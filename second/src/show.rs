@@ -1,5 +1,7 @@
 //! Sheets laid out for a person.
 
+use crate::dossier::Papers;
+use crate::hex;
 use crate::job::{Ability, Job, UnitType};
 use crate::note::check::Proved;
 use crate::note::{Mark, Tree};
@@ -49,6 +51,13 @@ pub fn checked(checked: &Result<Proved, Refusal>) -> String {
         Ok(Proved::None) => "none: no plan meets the rules\n".to_string(),
         Err(refusal) => numbered("refused", refusal, ""),
     }
+}
+
+/// The papers of a dossier, by their lengths and their bytes.
+pub fn dossier(papers: Papers) -> String {
+    let named = ["job", "plan", "note"].into_iter().zip(papers);
+    let line = |(name, paper): (&str, &[u8])| format!("{name}, {}\n", hex::counted(paper));
+    named.map(line).collect()
 }
 
 /// A place of a note's tree, as far to the right as operations are placed there: the row that leads to it, what all rows
@@ -394,6 +403,15 @@ mod tests {
         ];
         assert_eq!(text, lines.join("\n") + "\n");
         assert_eq!(checked(&proved), "none: no plan meets the rules\n");
+    }
+
+    #[test]
+    fn the_papers_of_a_dossier_are_told_apart() {
+        let text = dossier([&[0x10, 0], &[], &[0x38]]);
+        assert_eq!(
+            text,
+            "job, 2 bytes: 10 00\nplan, 0 bytes: \nnote, 1 bytes: 38\n"
+        );
     }
 
     #[test]

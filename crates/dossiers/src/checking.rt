@@ -30,10 +30,7 @@ fn dossier_fault(dossier: &[u8]) -> u32
     let form = form_fault(dossier, DOSSIER_FORM);
     let fill = fault_unless(spare == 0, basics::FILL_BROKEN);
     let lengths = fault_unless(end == dossier.len(), basics::LENGTHS_DIFFER);
-    or_else(
-        long,
-        or_else(short, or_else(form, or_else(fill, lengths))),
-    )
+    or_else(long, or_else(short, or_else(form, or_else(fill, lengths))))
 }
 
 // Checks a dossier: its own header, and then its job, its plan or none, and its note.

@@ -10,6 +10,9 @@ ghost use Rattle.rules.specs.Judge.{judge, judgedSays};
 ghost use Rattle.search.specs.Search.{search as searchOf, searchOut, searchedSays};
 ghost use Rattle.notes.specs.Check.{checkNote, checkedSays};
 ghost use Rattle.house.specs.House.{writeNote, noteOut};
+ghost use Rattle.moves.specs.Slide.{slide, slideOut};
+ghost use Rattle.moves.specs.Tidy.{tidy, tidyOut};
+ghost use Rattle.dossiers.specs.Dossier.{checkDossier};
 use basics::Answer;
 use notes::checking::checked_says;
 use rules::judging::judged_says;
@@ -97,4 +100,25 @@ pub extern "C" fn tolmupung_write_note(job: &[u8], plan: &[u8], out: &mut [u8]) 
     ensures { λ r. ⌜ Promise (writtenSays (writeNote (now (job .entry)) (now (plan .entry)) (length (now (out .entry))))) (noteOut (now (job .entry)) (now (plan .entry)) (now (out .entry))) r (now (out .exit)) ⌝ }
 {
     written_says(house::writing::write_note(job, plan, out))
+}
+
+#[no_mangle]
+pub extern "C" fn tolmupung_slide(job: &[u8], plan: &[u8], distance: i32, out: &mut [u8]) -> Answer
+    ensures { λ r. ⌜ Promise (writtenSays (slide (now (job .entry)) (now (plan .entry)) distance (length (now (out .entry))))) (slideOut (now (job .entry)) (now (plan .entry)) distance (now (out .entry))) r (now (out .exit)) ⌝ }
+{
+    written_says(moves::sliding::slide(job, plan, distance, out))
+}
+
+#[no_mangle]
+pub extern "C" fn tolmupung_tidy(job: &[u8], plan: &[u8], out: &mut [u8]) -> Answer
+    ensures { λ r. ⌜ Promise (writtenSays (tidy (now (job .entry)) (now (plan .entry)) (length (now (out .entry))))) (tidyOut (now (job .entry)) (now (plan .entry)) (now (out .entry))) r (now (out .exit)) ⌝ }
+{
+    written_says(moves::tidying::tidy(job, plan, out))
+}
+
+#[no_mangle]
+pub extern "C" fn tolmupung_check_dossier(dossier: &[u8]) -> Answer
+    ensures { λ r. ⌜ r ≡ checkedSays (checkDossier (now (dossier .entry))) ⌝ }
+{
+    checked_says(dossiers::checking::check_dossier(dossier))
 }

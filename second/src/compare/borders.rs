@@ -1,8 +1,9 @@
-//! Phases that try the judge where a rule just holds and where it just does not.
+//! Phases that try the judge, and tidy with every selection, where a rule just holds and where it just does not.
 
 use super::entries::{Checked, Comparison};
 use crate::job::{Ability, Job, Link, UnitType};
-use crate::plan::Plan;
+use crate::library::PLAN_BYTES;
+use crate::plan::{selection_of, Plan};
 use crate::random::Random;
 use crate::record::{KINDS, MAX_INSTANCES, MAX_TYPES};
 use crate::samples::{empty_job, most_links, plan_of, random_links, shared_copies, CANNOT};
@@ -10,7 +11,7 @@ use crate::sheet::Form;
 
 const GREATEST_COST: u16 = 65_535;
 
-/// Every selection of jobs without operations, up to 16 instances of the greatest cost.
+/// Every selection of jobs without operations, judged and tidied, up to 16 instances of the greatest cost.
 pub fn every_selection(comparison: &mut Comparison, random: &mut Random, count: usize) -> Checked {
     let shares: [&[u16]; 6] = [
         &[1; 8],
@@ -47,10 +48,11 @@ fn select_in_every_way(comparison: &mut Comparison, types: Vec<UnitType>) -> Che
     let (k, sheet) = (job.instances(), job.sheet());
     for bits in 0..1u32 << k {
         let plan = Plan {
-            selection: (0..k).map(|instance| (bits >> instance) & 1 == 1).collect(),
+            selection: selection_of(bits, k),
             rows: vec![],
         };
         comparison.judge(&sheet, &plan.sheet())?;
+        comparison.tidy(&sheet, &plan.sheet(), PLAN_BYTES)?;
     }
     Ok(())
 }

@@ -1,23 +1,25 @@
 //! Each entry of the library beside this program's own, for one input.
 
 use super::tally::Tally;
+use crate::dossier::{self, DOSSIER_BYTES};
 use crate::every_plan::cheapest;
 use crate::hex;
 use crate::job::Job;
-use crate::judge::judge;
+use crate::judge::{judge, read_both};
 use crate::library::{
-    check_note_by_library, judge_by_library, search_by_library, write_note_by_library, Answer,
-    Entries, Entry, Reading,
+    check_dossier_by_library, check_note_by_library, judge_by_library, search_by_library,
+    slide_by_library, tidy_by_library, write_note_by_library, Answer, Entries, Entry, Reading,
 };
 use crate::note::check::check;
 use crate::note::write::write;
-use crate::refusal::Refusal;
+use crate::output::{untouched, Written};
+use crate::plan::Plan;
+use crate::rules::cost;
 use crate::search::{search, walk, Searched};
 use crate::sheet::Form;
-use std::fmt::{self, Debug};
-
-/// Bytes kept around every output; no entry may touch them.
-const MARGIN: usize = 32;
+use crate::slide::slide;
+use crate::tidy::tidy;
+use std::fmt::Debug;
 
 pub struct Comparison {
     pub tally: Tally,
@@ -78,15 +80,15 @@ impl Comparison {
         let own = Reading::of(F::read(sheet));
         self.tally.count(F::READER, &own.answer);
         let library = F::read_by_library(sheet);
-        let input = || sheet_text(sheet);
+        let input = || hex::counted(sheet);
         agree(F::READER, LIBRARY, input, [&own, &library])
     }
 
     pub fn write<F: Entries>(&mut self, record: &F::Record, room: usize) -> Checked {
         let before = self.untouched_output(room);
-        let own = own_writing(F::write(record, room), &before);
+        let own = Written::ought(F::write(record, room), &before);
         self.tally.count(F::WRITER, &own.answer);
-        let library = library_write(&before, |out| F::write_by_library(record, out));
+        let library = Written::by(&before, |out| F::write_by_library(record, out));
         let input = || format!("{record:?}\ninto {room} bytes");
         agree(F::WRITER, LIBRARY, input, [&own, &library])
     }
@@ -102,11 +104,11 @@ impl Comparison {
     pub fn search(&mut self, job: &[u8], budget: u32, room: usize) -> Checked {
         let before = self.untouched_output(room);
         let searched = search(job, budget, room);
-        let own = own_write(Answer::searched(&searched), &searched.sheet(), &before);
+        let own = Written::with_sheet(Answer::searched(&searched), &searched.sheet(), &before);
         self.tally.count(Entry::Search, &own.answer);
-        let library = library_write(&before, |out| search_by_library(job, budget, out));
+        let library = Written::by(&before, |out| search_by_library(job, budget, out));
         let input = || {
-            let job = sheet_text(job);
+            let job = hex::counted(job);
             format!("job, {job}\nbudget {budget}, into {room} bytes")
         };
         agree(Entry::Search, LIBRARY, input, [&own, &library])
@@ -120,25 +122,116 @@ impl Comparison {
             _ => None,
         };
         self.tally.walks_confirmed += 1;
-        let input = || sheet_text(&job.sheet());
+        let input = || hex::counted(&job.sheet());
         agree(Entry::Search, WALK, input, [&cheapest(job), &of_the_walk])
     }
 
     pub fn check_note(&mut self, job: &[u8], plan: &[u8], note: &[u8]) -> Checked {
         let own = Answer::checked(check(job, plan, note));
         self.tally.count(Entry::CheckNote, &own);
-        let input = || format!("{}\nnote, {}", papers_text(job, plan), sheet_text(note));
+        let input = || format!("{}\nnote, {}", papers_text(job, plan), hex::counted(note));
         let library = check_note_by_library(job, plan, note);
         agree(Entry::CheckNote, LIBRARY, input, [&own, &library])
     }
 
     pub fn write_note(&mut self, job: &[u8], plan: &[u8], room: usize) -> Checked {
         let before = self.untouched_output(room);
-        let own = own_writing(write(job, plan, room), &before);
+        let own = Written::ought(write(job, plan, room), &before);
         self.tally.count(Entry::WriteNote, &own.answer);
-        let library = library_write(&before, |out| write_note_by_library(job, plan, out));
+        let library = Written::by(&before, |out| write_note_by_library(job, plan, out));
         let input = || format!("{}\ninto {room} bytes", papers_text(job, plan));
         agree(Entry::WriteNote, LIBRARY, input, [&own, &library])
+    }
+
+    pub fn slide(&mut self, job: &[u8], plan: &[u8], distance: i32, room: usize) -> Checked {
+        let before = self.untouched_output(room);
+        let own = Written::ought(slide(job, plan, distance, room), &before);
+        self.tally.count(Entry::Slide, &own.answer);
+        let library = Written::by(&before, |out| slide_by_library(job, plan, distance, out));
+        let input = || {
+            let papers = papers_text(job, plan);
+            format!("{papers}\nby {distance}, into {room} bytes")
+        };
+        agree(Entry::Slide, LIBRARY, input, [&own, &library])?;
+        if library.answer.is_written() {
+            self.slid_passes(job, plan, library.sheet())?;
+        }
+        Ok(())
+    }
+
+    /// The library's judge says of a plan slid what it says of the plan lent.
+    fn slid_passes(&mut self, job: &[u8], lent: &[u8], slid: &[u8]) -> Checked {
+        const SLID: Pair = [
+            "library's judge of the plan lent",
+            "library's judge of the plan slid",
+        ];
+        self.tally.slid_judged += 1;
+        let input = || format!("{}\nslid, {}", papers_text(job, lent), hex::counted(slid));
+        let verdicts = [lent, slid].map(|plan| judge_by_library(job, plan));
+        agree(Entry::Slide, SLID, input, verdicts.each_ref())
+    }
+
+    pub fn tidy(&mut self, job: &[u8], plan: &[u8], room: usize) -> Checked {
+        let before = self.untouched_output(room);
+        let own = Written::ought(tidy(job, plan, room), &before);
+        self.tally.count(Entry::Tidy, &own.answer);
+        let library = Written::by(&before, |out| tidy_by_library(job, plan, out));
+        let input = || format!("{}\ninto {room} bytes", papers_text(job, plan));
+        agree(Entry::Tidy, LIBRARY, input, [&own, &library])?;
+        if library.answer.is_written() {
+            self.tidied_passes(job, plan, library.sheet())?;
+        }
+        Ok(())
+    }
+
+    /// The library's judge passes a tidied plan at the cost of the selection lent, and its starts are those lent.
+    fn tidied_passes(&mut self, job: &[u8], lent: &[u8], tidied: &[u8]) -> Checked {
+        const TIDIED: Pair = ["plan lent", "plan tidied, judged by the library"];
+        self.tally.tidied_judged += 1;
+        let input = || {
+            format!(
+                "{}\ntidied, {}",
+                papers_text(job, lent),
+                hex::counted(tidied)
+            )
+        };
+        let (held_job, held_plan) =
+            read_both(job, lent).expect("a job and a plan that were tidied");
+        let cost = cost(&held_job, &held_plan.selection);
+        let of_lent = (Answer::judged(Ok(cost)), Some(starts_of(&held_plan)));
+        let read = Plan::read(tidied).ok();
+        let of_tidied = (judge_by_library(job, tidied), read.as_ref().map(starts_of));
+        agree(Entry::Tidy, TIDIED, input, [&of_lent, &of_tidied])
+    }
+
+    pub fn check_dossier(&mut self, bytes: &[u8]) -> Checked {
+        let own = Answer::checked(dossier::check(bytes));
+        self.tally.count(Entry::CheckDossier, &own);
+        let library = check_dossier_by_library(bytes);
+        agree(
+            Entry::CheckDossier,
+            LIBRARY,
+            || hex::counted(bytes),
+            [&own, &library],
+        )
+    }
+
+    /// The dossier of three papers. Unless it is too long, the library's check of it stands beside its check of the note.
+    pub fn check_packed(&mut self, papers: dossier::Papers) -> Checked {
+        const PACKED: Pair = ["library's note check", "library's dossier check"];
+        let packed = dossier::pack(papers);
+        self.check_dossier(&packed)?;
+        if packed.len() > DOSSIER_BYTES {
+            return Ok(());
+        }
+        self.tally.dossiers_unpacked += 1;
+        let [job, plan, note] = papers;
+        let answers = [
+            check_note_by_library(job, plan, note),
+            check_dossier_by_library(&packed),
+        ];
+        let input = || hex::counted(&packed);
+        agree(Entry::CheckDossier, PACKED, input, answers.each_ref())
     }
 
     /// What all plans judged say of a claim, beside what this program's note says. The library is not asked.
@@ -151,7 +244,7 @@ impl Comparison {
     ) -> Checked {
         const NOTE: Pair = ["judge of every plan", "note"];
         self.tally.notes_confirmed += 1;
-        let input = || format!("job, {}\nclaim {claim:?}", sheet_text(&job.sheet()));
+        let input = || format!("job, {}\nclaim {claim:?}", hex::counted(&job.sheet()));
         let of_all_plans = claim == cheapest;
         agree(Entry::CheckNote, NOTE, input, [&of_all_plans, &accepted])
     }
@@ -171,99 +264,16 @@ impl Comparison {
         agree(F::WRITER, LIBRARY, input, [&own, &library])
     }
 
-    /// An output and its margins: no byte is zero, and each comparison finds other bytes there.
+    /// Each comparison finds other bytes in its output.
     fn untouched_output(&self, room: usize) -> Vec<u8> {
-        let turn = self.tally.total();
-        let mut output = Vec::new();
-        for place in 0..(MARGIN + room + MARGIN) as u64 {
-            output.push(1 + ((turn + 7 * place) % 255) as u8);
-        }
-        output
+        untouched(room, self.tally.total())
     }
 }
 
-fn sheet_text(sheet: &[u8]) -> String {
-    format!("{} bytes: {}", sheet.len(), hex::digits_of(sheet))
+fn starts_of(plan: &Plan) -> Vec<u16> {
+    plan.rows.iter().map(|row| row.start).collect()
 }
 
 fn papers_text(job: &[u8], plan: &[u8]) -> String {
-    format!("job, {}\nplan, {}", sheet_text(job), sheet_text(plan))
-}
-
-/// What an entry that writes leaves: its answer, and the whole output with its margins before and after the call.
-#[derive(PartialEq, Eq)]
-struct Written {
-    answer: Answer,
-    before: Vec<u8>,
-    after: Vec<u8>,
-}
-
-impl Debug for Written {
-    fn fmt(&self, out: &mut fmt::Formatter<'_>) -> fmt::Result {
-        writeln!(out, "{:?}", self.answer)?;
-        let end = self.after.len() - MARGIN;
-        writeln!(out, "output {}", hex::digits_of(&self.after[MARGIN..end]))?;
-        let mut touched = Vec::new();
-        for (place, (before, after)) in self.before.iter().zip(&self.after).enumerate() {
-            if before != after {
-                touched.push(place as i64 - MARGIN as i64);
-            }
-        }
-        write!(out, "places of the output that changed: {touched:?}")
-    }
-}
-
-/// What ought to be left: the sheet at the front of the output.
-fn own_write(answer: Answer, sheet: &[u8], before: &[u8]) -> Written {
-    let mut after = before.to_vec();
-    after[MARGIN..MARGIN + sheet.len()].copy_from_slice(sheet);
-    Written {
-        answer,
-        before: before.to_vec(),
-        after,
-    }
-}
-
-/// The same of a sheet or a refusal.
-fn own_writing(written: Result<Vec<u8>, Refusal>, before: &[u8]) -> Written {
-    match written {
-        Ok(sheet) => own_write(Answer::written(sheet.len()), &sheet, before),
-        Err(refusal) => own_write(Answer::refused(refusal), &[], before),
-    }
-}
-
-fn library_write(before: &[u8], entry: impl Fn(&mut [u8]) -> Answer) -> Written {
-    let mut after = before.to_vec();
-    let end = after.len() - MARGIN;
-    let answer = entry(&mut after[MARGIN..end]);
-    Written {
-        answer,
-        before: before.to_vec(),
-        after,
-    }
-}
-
-#[cfg(test)]
-mod tests {
-    use super::*;
-
-    #[test]
-    fn untouched_outputs_hold_no_zero_and_change() {
-        let mut comparison = Comparison::new();
-        let first = comparison.untouched_output(1000);
-        comparison.tally.count(Entry::ReadJob, &Answer::read());
-        let second = comparison.untouched_output(1000);
-        assert_eq!(first.len(), 1000 + 2 * MARGIN);
-        assert!(!first.contains(&0) && !second.contains(&0));
-        assert!(first.iter().zip(&second).all(|(one, other)| one != other));
-    }
-
-    #[test]
-    fn a_refused_write_leaves_the_output() {
-        let before = [7; 2 * MARGIN + 3];
-        let refused = own_write(Answer::refused(Refusal::OUTPUT_TOO_SHORT), &[], &before);
-        assert_eq!(refused.after, before);
-        let written = own_write(Answer::written(2), &[1, 2], &before);
-        assert_eq!(written.after[MARGIN - 1..MARGIN + 3], [7, 1, 2, 7]);
-    }
+    format!("job, {}\nplan, {}", hex::counted(job), hex::counted(plan))
 }

@@ -2,7 +2,7 @@
 
 use super::entries::{Checked, Comparison};
 use super::faults::{broken_links, broken_types};
-use super::sheets::{dressed, flipped};
+use super::sheets::{dressed, flipped, flipped_anywhere};
 use crate::job::Job;
 use crate::random::Random;
 use crate::samples::{full_job, job_p, random_job};
@@ -47,8 +47,8 @@ fn with_flipped_bits(comparison: &mut Comparison, sheet: &[u8], random: &mut Ran
         ask(comparison, &flipped(sheet, &[position]), random)?;
     }
     for flips in 2..20 {
-        let positions: Vec<usize> = (0..flips).map(|_| random.below(8 * sheet.len())).collect();
-        ask(comparison, &flipped(sheet, &positions), random)?;
+        let changed = flipped_anywhere(random, sheet, flips);
+        ask(comparison, &changed, random)?;
     }
     Ok(())
 }

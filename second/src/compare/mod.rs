@@ -2,18 +2,20 @@
 
 mod borders;
 mod changes;
+mod dossiers;
 mod entries;
 mod faults;
 mod job_papers;
 mod judging;
 mod mixes;
+pub(crate) mod moving;
 mod note_papers;
-mod noted;
+pub(crate) mod noted;
 mod noting;
 mod papers;
 mod records;
 mod searching;
-mod sheets;
+pub(crate) mod sheets;
 mod tally;
 
 use crate::random::Random;
@@ -23,7 +25,7 @@ use std::time::Instant;
 
 type Phase = fn(&mut Comparison, &mut Random, usize) -> Checked;
 
-const PHASES: [(&str, Phase); 44] = [
+const PHASES: [(&str, Phase); 55] = [
     ("sheets of every size", sheets::every_size),
     ("sound sheets and records", sheets::sound),
     ("every number in every header field", sheets::every_header),
@@ -86,6 +88,26 @@ const PHASES: [(&str, Phase); 44] = [
     ("notes around 60,000 bytes", noting::long_notes),
     ("large jobs noted", noting::large_jobs),
     ("notes at full depth", noting::deep_notes),
+    ("plans slid by every distance", moving::every_distance),
+    ("plans slid to both limits", moving::to_both_limits),
+    (
+        "plans broken in selection order alone",
+        moving::selection_order,
+    ),
+    (
+        "every selection of small jobs tidied",
+        moving::every_selection,
+    ),
+    (
+        "outputs of every length, slid and tidied",
+        moving::every_room,
+    ),
+    ("broken plans slid and tidied", moving::broken_plans),
+    ("known dossiers", dossiers::known),
+    ("dossiers of sound papers", dossiers::sound),
+    ("damaged dossiers", dossiers::damaged),
+    ("dossiers around 65,536 bytes", dossiers::long),
+    ("dossiers of random bytes", dossiers::random_bytes),
 ];
 
 /// Tries each of the samples, up to the first disagreement.
@@ -124,6 +146,10 @@ fn report(comparison: &Comparison, seed: u64, count: usize) -> ExitCode {
         tally.round_trips,
         tally.walks_confirmed,
         tally.notes_confirmed
+    );
+    println!(
+        "by the library's own answers: {} slid and {} tidied plans pass, {} dossiers answer as their papers do",
+        tally.slid_judged, tally.tidied_judged, tally.dossiers_unpacked
     );
     println!("\nrefusals met, by paper and number, with the search's 30 (spent) and 31 (none);");
     println!("alone, plans that break no other rule:");

@@ -1,11 +1,13 @@
-//! Phases that try the check and the writing of notes by papers that do not belong together, or that cannot be read.
+//! Phases that try the check and the writing of notes, and the check of dossiers, by papers that do not belong together, or
+//! that cannot be read.
 
 use super::changes::several_changes;
 use super::entries::{Checked, Comparison};
 use super::faults::{broken_links, broken_types};
 use super::judging::by_the_one_rule_broken;
 use super::noted::Noted;
-use super::sheets::{dressed, flipped};
+use super::sheets::{cut_or_lengthened, dressed, flipped, flipped_anywhere};
+use crate::dossier::Papers;
 use crate::note::NOTE_BYTES;
 use crate::planned::{pairs, Planned};
 use crate::random::Random;
@@ -14,10 +16,14 @@ use crate::sheet::Form;
 /// Bytes of a small note, and of an output that most notes do not fit.
 const SMALL: usize = 30;
 
-/// Both questions that can be asked with a job and a plan; the writer's with any room.
-fn ask(comparison: &mut Comparison, random: &mut Random, papers: [&[u8]; 3]) -> Checked {
+/// The questions that can be asked with a job, a plan and a note: the writer's with any room, that of the dossier
+/// sometimes.
+fn ask(comparison: &mut Comparison, random: &mut Random, papers: Papers) -> Checked {
     let [job, plan, note] = papers;
     comparison.check_note(job, plan, note)?;
+    if random.one_in(4) {
+        comparison.check_packed(papers)?;
+    }
     comparison.write_note(job, plan, random.below(SMALL))
 }
 
@@ -46,37 +52,20 @@ pub fn mixed_up(comparison: &mut Comparison, random: &mut Random, count: usize) 
 pub fn damaged(comparison: &mut Comparison, random: &mut Random, count: usize) -> Checked {
     for _ in 0..5 * count {
         let noted = Noted::small(random, 2..=SMALL);
-        cut_or_lengthened(comparison, random, &noted)?;
+        cut_or_lengthened(random, &noted.note, |note| {
+            comparison.check_note(&noted.sheet, &noted.plan, note)
+        })?;
         for position in 0..8 * noted.note.len() {
-            flip(comparison, &noted, &[position])?;
+            let changed = flipped(&noted.note, &[position]);
+            comparison.check_note(&noted.sheet, &noted.plan, &changed)?;
         }
     }
     for _ in 0..10 * count {
         let noted = Noted::small(random, SMALL..=8 * SMALL);
         for flips in [1, 1, 1, 2, 3, 10] {
-            let bits = 8 * noted.note.len();
-            let positions: Vec<usize> = (0..flips).map(|_| random.below(bits)).collect();
-            flip(comparison, &noted, &positions)?;
+            let changed = flipped_anywhere(random, &noted.note, flips);
+            comparison.check_note(&noted.sheet, &noted.plan, &changed)?;
         }
-    }
-    Ok(())
-}
-
-fn flip(comparison: &mut Comparison, noted: &Noted, positions: &[usize]) -> Checked {
-    let changed = flipped(&noted.note, positions);
-    comparison.check_note(&noted.sheet, &noted.plan, &changed)
-}
-
-/// The bytes cut off stay in memory behind.
-fn cut_or_lengthened(comparison: &mut Comparison, random: &mut Random, noted: &Noted) -> Checked {
-    let (sheet, plan, note) = (&noted.sheet, &noted.plan, &noted.note[..]);
-    for length in 0..note.len() {
-        comparison.check_note(sheet, plan, &note[..length])?;
-    }
-    let any = random.bytes(9);
-    let tails: [&[u8]; 6] = [&[0], &[1], &[0x80], &[0; 40], &[0xff; 40], &any];
-    for tail in tails {
-        comparison.check_note(sheet, plan, &[note, tail].concat())?;
     }
     Ok(())
 }

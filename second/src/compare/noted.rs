@@ -1,6 +1,7 @@
 //! Jobs, each with the cheapest plan or none, and the house note for it.
 
 use super::searching;
+use crate::dossier::Papers;
 use crate::job::{Ability, Job, Link};
 use crate::note::lent;
 use crate::note::write::{house, note_of};
@@ -50,6 +51,11 @@ impl Noted {
             Searched::None { .. } => Noted::of(job, None, most),
             _ => None,
         }
+    }
+
+    /// Job, plan and note.
+    pub fn papers(&self) -> Papers<'_> {
+        [&self.sheet, &self.plan, &self.note]
     }
 
     /// Small jobs are drawn until a house note is as long as wanted.

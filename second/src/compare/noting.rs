@@ -208,6 +208,7 @@ fn full_note(comparison: &mut Comparison, random: &mut Random) -> Checked {
     let mut note = note_of(&job, claim, NOTE_BYTES, of_bits(8 * NOTE_BYTES)).expect("a note");
     assert_eq!(note.len(), NOTE_BYTES);
     comparison.check_note(&sheet, &plan, &note)?;
+    comparison.check_packed([&sheet, &plan, &note])?;
     comparison.check_note(&sheet, &plan, &note[..NOTE_BYTES - 1])?;
     comparison.check_note(&sheet, &plan, &[&note[..], &random.bytes(1)].concat())?;
     note[NOTE_BYTES - 1] ^= 1;

@@ -1,18 +1,29 @@
-//! Phases that try the judge by papers that cannot be read: the job's refusal comes first, then the plan's.
+//! Phases that try the judge, slide and tidy by papers that cannot be read: the job's refusal comes first, then the
+//! plan's.
 
 use super::entries::{Checked, Comparison};
-use super::sheets::{dressed, flipped};
+use super::moving;
+use super::sheets::{dressed, flipped, flipped_anywhere};
 use crate::planned::{pairs, Planned};
 use crate::random::Random;
 use crate::sheet::Form;
+
+/// The judge, and sometimes slide and tidy.
+fn ask(comparison: &mut Comparison, random: &mut Random, job: &[u8], plan: &[u8]) -> Checked {
+    comparison.judge(job, plan)?;
+    if random.one_in(6) {
+        moving::ask(comparison, random, job, plan)?;
+    }
+    Ok(())
+}
 
 /// Job and plan cut, lengthened, with flipped bits and mixed up: the one, the other, and both.
 pub fn damaged(comparison: &mut Comparison, random: &mut Random, count: usize) -> Checked {
     for Planned { job, plan } in pairs(random, count / 2) {
         let (job, plan) = (job.sheet(), plan.sheet());
-        mix_up(comparison, &job, &plan)?;
+        mix_up(comparison, &job, &plan, random)?;
         cut(comparison, &job, &plan, random)?;
-        lengthen(comparison, &job, &plan)?;
+        lengthen(comparison, &job, &plan, random)?;
         flip_one_bit(comparison, &job, &plan, random)?;
         flip_several_bits(comparison, &job, &plan, random)?;
     }
@@ -20,10 +31,10 @@ pub fn damaged(comparison: &mut Comparison, random: &mut Random, count: usize) -
 }
 
 /// Either paper in either place, and none.
-fn mix_up(comparison: &mut Comparison, job: &[u8], plan: &[u8]) -> Checked {
+fn mix_up(comparison: &mut Comparison, job: &[u8], plan: &[u8], random: &mut Random) -> Checked {
     for first in [job, plan, &[]] {
         for second in [job, plan, &[]] {
-            comparison.judge(first, second)?;
+            ask(comparison, random, first, second)?;
         }
     }
     Ok(())
@@ -32,22 +43,23 @@ fn mix_up(comparison: &mut Comparison, job: &[u8], plan: &[u8]) -> Checked {
 /// The bytes cut off stay in memory behind. A plan cut to nothing is a plan of length 0.
 fn cut(comparison: &mut Comparison, job: &[u8], plan: &[u8], random: &mut Random) -> Checked {
     for length in 0..job.len() {
-        comparison.judge(&job[..length], plan)?;
-        comparison.judge(&job[..length], &plan[..random.below(plan.len())])?;
+        ask(comparison, random, &job[..length], plan)?;
+        let cut_plan = &plan[..random.below(plan.len())];
+        ask(comparison, random, &job[..length], cut_plan)?;
     }
     for length in 0..plan.len() {
-        comparison.judge(job, &plan[..length])?;
+        ask(comparison, random, job, &plan[..length])?;
     }
     Ok(())
 }
 
-fn lengthen(comparison: &mut Comparison, job: &[u8], plan: &[u8]) -> Checked {
+fn lengthen(comparison: &mut Comparison, job: &[u8], plan: &[u8], random: &mut Random) -> Checked {
     let tails: [&[u8]; 5] = [&[0], &[1], &[0x80], &[0; 40], &[0xff; 40]];
     for tail in tails {
         let (long_job, long_plan) = ([job, tail].concat(), [plan, tail].concat());
-        comparison.judge(&long_job, plan)?;
-        comparison.judge(job, &long_plan)?;
-        comparison.judge(&long_job, &long_plan)?;
+        ask(comparison, random, &long_job, plan)?;
+        ask(comparison, random, job, &long_plan)?;
+        ask(comparison, random, &long_job, &long_plan)?;
     }
     Ok(())
 }
@@ -61,14 +73,14 @@ fn flip_one_bit(
 ) -> Checked {
     for position in 0..8 * job.len() {
         let changed = flipped(job, &[position]);
-        comparison.judge(&changed, plan)?;
+        ask(comparison, random, &changed, plan)?;
         if random.one_in(4) {
             let in_plan = random.below(8 * plan.len());
-            comparison.judge(&changed, &flipped(plan, &[in_plan]))?;
+            ask(comparison, random, &changed, &flipped(plan, &[in_plan]))?;
         }
     }
     for position in 0..8 * plan.len() {
-        comparison.judge(job, &flipped(plan, &[position]))?;
+        ask(comparison, random, job, &flipped(plan, &[position]))?;
     }
     Ok(())
 }
@@ -80,14 +92,11 @@ fn flip_several_bits(
     random: &mut Random,
 ) -> Checked {
     for flips in 2..20 {
-        let mut with_flips = |sheet: &[u8]| {
-            let positions = (0..flips).map(|_| random.below(8 * sheet.len()));
-            flipped(sheet, &positions.collect::<Vec<usize>>())
-        };
-        let (changed_job, changed_plan) = (with_flips(job), with_flips(plan));
-        comparison.judge(&changed_job, plan)?;
-        comparison.judge(job, &changed_plan)?;
-        comparison.judge(&changed_job, &changed_plan)?;
+        let changed_job = flipped_anywhere(random, job, flips);
+        let changed_plan = flipped_anywhere(random, plan, flips);
+        ask(comparison, random, &changed_job, plan)?;
+        ask(comparison, random, job, &changed_plan)?;
+        ask(comparison, random, &changed_job, &changed_plan)?;
     }
     Ok(())
 }
@@ -105,9 +114,9 @@ pub fn random_bytes(comparison: &mut Comparison, random: &mut Random, count: usi
             let job_papers = dressed(&job_bytes, &job);
             let plan_papers = dressed(&plan_bytes, &plan);
             for (job_paper, plan_paper) in job_papers.iter().zip(&plan_papers) {
-                comparison.judge(job_paper, &plan.sheet())?;
-                comparison.judge(&job.sheet(), plan_paper)?;
-                comparison.judge(job_paper, plan_paper)?;
+                ask(comparison, random, job_paper, &plan.sheet())?;
+                ask(comparison, random, &job.sheet(), plan_paper)?;
+                ask(comparison, random, job_paper, plan_paper)?;
             }
         }
     }

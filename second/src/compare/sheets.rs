@@ -116,8 +116,7 @@ fn flip_bits<F: Entries>(
         comparison.read::<F>(&flipped(sheet, &[position]))?;
     }
     for flips in 2..20 {
-        let positions: Vec<usize> = (0..flips).map(|_| random.below(8 * sheet.len())).collect();
-        let changed = flipped(sheet, &positions);
+        let changed = flipped_anywhere(random, sheet, flips);
         comparison.read::<F>(&changed)?;
         comparison.read::<F>(&changed[..random.below(changed.len())])?;
         lengthen::<F>(comparison, &changed, random)?;
@@ -131,6 +130,29 @@ pub fn flipped(sheet: &[u8], positions: &[usize]) -> Vec<u8> {
         changed[position / 8] ^= 0x80 >> (position % 8);
     }
     changed
+}
+
+/// So many bits flipped, wherever they are.
+pub fn flipped_anywhere(random: &mut Random, sheet: &[u8], flips: usize) -> Vec<u8> {
+    let positions: Vec<usize> = (0..flips).map(|_| random.below(8 * sheet.len())).collect();
+    flipped(sheet, &positions)
+}
+
+/// The sheet cut at every length, and with something behind it. The bytes cut off stay in memory behind.
+pub fn cut_or_lengthened(
+    random: &mut Random,
+    sheet: &[u8],
+    mut attempt: impl FnMut(&[u8]) -> Checked,
+) -> Checked {
+    for length in 0..sheet.len() {
+        attempt(&sheet[..length])?;
+    }
+    let any = random.bytes(9);
+    let tails: [&[u8]; 6] = [&[0], &[1], &[0x80], &[0; 40], &[0xff; 40], &any];
+    for tail in tails {
+        attempt(&[sheet, tail].concat())?;
+    }
+    Ok(())
 }
 
 /// Each field in turn takes the smallest, the neighbouring and the largest numbers it holds.
@@ -203,7 +225,7 @@ pub fn dressed<F: Form>(bytes: &[u8], sound: &F) -> [Vec<u8>; 3] {
     ]
 }
 
-fn with_form(bytes: &[u8], form: u16) -> Vec<u8> {
+pub fn with_form(bytes: &[u8], form: u16) -> Vec<u8> {
     let mut changed = bytes.to_vec();
     if let Some(first) = changed.first_mut() {
         *first = (*first & 0x0f) | ((form as u8) << 4);

@@ -9,7 +9,17 @@ const JUDGING: RangeInclusive<u32> = 10..=18;
 
 /// How often a number of judging and every answer of these entries must be met at least.
 const OFTEN: u64 = 20;
-const OFTEN_ASKED: [Entry; 3] = [Entry::Search, Entry::CheckNote, Entry::WriteNote];
+const OFTEN_ASKED: [Entry; 6] = [
+    Entry::Search,
+    Entry::CheckNote,
+    Entry::WriteNote,
+    Entry::Slide,
+    Entry::Tidy,
+    Entry::CheckDossier,
+];
+
+/// The entries that can find that there is no plan, and say so without a number.
+const PROVE_NONE: [Entry; 2] = [Entry::CheckNote, Entry::CheckDossier];
 
 pub struct Tally {
     answers: BTreeMap<(Entry, Outcome), u64>,
@@ -17,10 +27,13 @@ pub struct Tally {
     pub round_trips: u64,
     pub walks_confirmed: u64,
     pub notes_confirmed: u64,
+    pub slid_judged: u64,
+    pub tidied_judged: u64,
+    pub dossiers_unpacked: u64,
 }
 
-/// The search's outcomes spent and none are counted by paper and number, as refusals are. The note check's none has
-/// neither.
+/// The search's outcomes spent and none are counted by paper and number, as refusals are. The none of the note check and
+/// of the dossier check has neither.
 #[derive(Clone, Copy, PartialEq, Eq, PartialOrd, Ord)]
 enum Outcome {
     Done,
@@ -36,6 +49,9 @@ impl Tally {
             round_trips: 0,
             walks_confirmed: 0,
             notes_confirmed: 0,
+            slid_judged: 0,
+            tidied_judged: 0,
+            dossiers_unpacked: 0,
         }
     }
 
@@ -90,7 +106,7 @@ impl Tally {
             let often = OFTEN_ASKED.contains(&entry);
             let least = if often { OFTEN } else { 1 };
             require(format!("{name}, anything but a refusal"), done, least);
-            if entry == Entry::CheckNote {
+            if PROVE_NONE.contains(&entry) {
                 let none = self.times(entry, Outcome::None);
                 require(format!("{name}, none"), none, least);
             }
@@ -117,9 +133,12 @@ impl Tally {
         let mut table = line("", &names, "alone");
         table += &line("comparisons", &totals, "");
         table += &line("done", &done, "");
-        let none = Entry::ALL.map(|entry| match entry {
-            Entry::CheckNote => self.times(entry, Outcome::None).to_string(),
-            _ => "-".to_string(),
+        let none = Entry::ALL.map(|entry| {
+            if PROVE_NONE.contains(&entry) {
+                self.times(entry, Outcome::None).to_string()
+            } else {
+                "-".to_string()
+            }
         });
         table += &line("none", &none, "");
         let refusals: BTreeSet<(u32, u32)> = Entry::ALL.into_iter().flat_map(refusals_of).collect();
@@ -148,9 +167,9 @@ impl Tally {
 fn line(title: &str, cells: &[String], last: &str) -> String {
     let mut line = format!("{title:<12}");
     for cell in cells {
-        line += &format!("{cell:>13}");
+        line += &format!("{cell:>14}");
     }
-    line += &format!("{last:>13}");
+    line += &format!("{last:>14}");
     line.trim_end().to_string() + "\n"
 }
 
@@ -172,8 +191,11 @@ mod tests {
     use crate::search::{walk, Searched};
 
     const OF_NOTES: usize = (2 + 6 + 13 + 8) + (1 + 6 + 13 + 1 + 1);
+    const OF_MOVES: usize = (1 + 6 + 13 + 1 + 2) + (1 + 6 + 12 + 1);
+    const OF_DOSSIERS: usize = 2 + 5 + 6 + 13 + 8;
+    const OF_SHEETS: usize = (1 + 6) + (1 + 5) + (1 + 4) + (1 + 3);
     const EVERY_ANSWER: usize =
-        (1 + 6) + (1 + 5) + (1 + 4) + (1 + 3) + (1 + 6 + 13) + (1 + 7 + 2) + OF_NOTES;
+        OF_SHEETS + (1 + 6 + 13) + (1 + 7 + 2) + OF_NOTES + OF_MOVES + OF_DOSSIERS;
 
     #[test]
     fn an_answer_never_met_is_named() {
@@ -239,12 +261,19 @@ mod tests {
     #[test]
     fn a_note_for_none_is_told_from_one_for_a_plan() {
         let mut tally = Tally::new();
-        let line = "note check, none: met 19 times, not 20 or more".to_string();
+        let lines = ["note check", "dossier check"]
+            .map(|name| format!("{name}, none: met 19 times, not 20 or more"));
         for (proved, named) in [(Proved::Cheapest { cost: 0 }, false), (Proved::None, true)] {
-            for _ in 0..19 {
-                tally.count(Entry::CheckNote, &Answer::checked(Ok(proved)));
+            for entry in [Entry::CheckNote, Entry::CheckDossier] {
+                for _ in 0..19 {
+                    tally.count(entry, &Answer::checked(Ok(proved)));
+                }
             }
-            assert_eq!(tally.met_too_seldom().contains(&line), named);
+            let missing = tally.met_too_seldom();
+            assert_eq!(
+                lines.each_ref().map(|line| missing.contains(line)),
+                [named; 2]
+            );
         }
     }
 
