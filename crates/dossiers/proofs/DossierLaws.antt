@@ -18,7 +18,7 @@ use Rattle.bits.proofs.SheetLaws.{Fit, Holds, holds-pack, pack-holds, length-pa
 use Rattle.sheets.specs.Limits.{formBits}
 use Rattle.notes.specs.Check.{checkNote}
 use Rattle.notes.specs.declared.Checked.the-variants.{Refused}
-use Rattle.dossiers.specs.Dossier.{dossierForm, spareBits, lengthBits, lengthsAt, dossierHead, maxDossier, headFields, dossierSheet}
+use Rattle.dossiers.specs.Dossier.{dossierForm, zeroBits, lengthBits, lengthsAt, dossierHead, maxDossier, headFields, dossierSheet}
 use Rattle.dossiers.specs.Dossier.{lengthIn, jobAt, planAt, noteAt, noteEnd, part, jobPart, planPart, notePart, dossierFault, ifSound, checkDossier}
 use Rattle.dossiers.proofs.PartLaws.{DossierSound, none-dossier, dossier-none}
 
@@ -52,7 +52,7 @@ module _ (job plan note : ℕ) where
   head-fit j p n = (lit< tt, (lit< tt, (j, (p, (n, tt)))))
 
   -- bytes that say this are the header
-  head-again : (s : List ℕ) → Bytes s → length s ≡ jobAt → field s 0 formBits ≡ dossierForm → field s formBits spareBits ≡ 0
+  head-again : (s : List ℕ) → Bytes s → length s ≡ jobAt → field s 0 formBits ≡ dossierForm → field s formBits zeroBits ≡ 0
       → lengthIn s 0 ≡ job → lengthIn s 1 ≡ plan → lengthIn s 2 ≡ note → pack (headFields job plan note) ≡ s
   unfolding total Holds
   head-again s hs l f z j p n = pack-holds s (headFields job plan note) hs l (field-none s dossierHead) (f, (z, (j, (p, (n, tt)))))
@@ -123,7 +123,7 @@ module _ (job plan note : List ℕ) (h : jobAt + (length job + (length plan + le
     short = omega (arith, sheet-length);
     long = omega (arith, sheet-length);
     form = sheet-field 0 formBits (omega arith) ∙ held .0;
-    spare = sheet-field formBits spareBits (omega arith) ∙ held .1 .0;
+    zeros = sheet-field formBits zeroBits (omega arith) ∙ held .1 .0;
     whole = omega (arith, sheet-length, sheet-job, sheet-plan, sheet-note);
   }
 
@@ -187,7 +187,7 @@ module _ (s : List ℕ) (r : DossierSound s) where
       let n : length (notePart s) ≡ noteEnd s - noteAt s = part-length s (noteAt s) (noteEnd s) (omega arith) (omega (arith, r .whole)) in
       head-again (length (jobPart s)) (length (planPart s)) (length (notePart s)) (take jobAt s)
       (take-bytes jobAt s hs (omega (arith, r .long))) front-length (front-field 0 formBits (omega arith) ∙ r .form)
-      (front-field formBits spareBits (omega arith) ∙ r .spare) (front-lengths 0 (lit< tt) ∙ omega (arith, j))
+      (front-field formBits zeroBits (omega arith) ∙ r .zeros) (front-lengths 0 (lit< tt) ∙ omega (arith, j))
       (front-lengths 1 (lit< tt) ∙ omega (arith, p)) (front-lengths 2 (lit< tt) ∙ omega (arith, n))
 
   parts-joined : jobPart s ++ planPart s ++ notePart s ≡ drop jobAt s

@@ -11,13 +11,13 @@ use Rattle.basics.proofs.FaultLaws.{orElse-none, none-orElse, unless-none, none
 use Rattle.bits.specs.Bits.{field}
 use Rattle.sheets.specs.Limits.{formBits}
 use Rattle.sheets.proofs.GroupLaws.{whole-none, none-whole, form-none, none-form}
-use Rattle.dossiers.specs.Dossier.{dossierForm, spareBits, dossierHead, maxDossier, jobAt, planAt, noteAt, noteEnd, dossierFault}
+use Rattle.dossiers.specs.Dossier.{dossierForm, zeroBits, dossierHead, maxDossier, jobAt, planAt, noteAt, noteEnd, dossierFault}
 
 pub record DossierSound (s : List ℕ) : Type 0 where
   pub short : length s ≤ maxDossier
   pub long : dossierHead ≤ 8 * length s
   pub form : field s 0 formBits ≡ dossierForm
-  pub spare : field s formBits spareBits ≡ 0
+  pub zeros : field s formBits zeroBits ≡ 0
   pub whole : noteEnd s ≡ length s
 
 module _ (s : List ℕ) where
@@ -32,7 +32,7 @@ module _ (s : List ℕ) where
         short = leb-true (length s) maxDossier (unless-none _ dossierLong (lit< tt) (a .0));
         long = none-whole (length s) dossierHead (b .0);
         form = none-form s dossierForm (c .0);
-        spare = eqb-true _ _ (unless-none _ fillBroken (lit< tt) (d .0));
+        zeros = eqb-true _ _ (unless-none _ fillBroken (lit< tt) (d .0));
         whole = eqb-true _ _ (unless-none _ lengthsDiffer (lit< tt) (d .1));
       }
 
@@ -42,7 +42,7 @@ module _ (s : List ℕ) where
       none-orElse _ _ (none-unless _ dossierLong (le-leb (length s) maxDossier (h .short)))
       (none-orElse _ _ (whole-none (length s) dossierHead (h .long))
       (none-orElse _ _ (form-none s dossierForm (h .form) (omega (arith, h .long)))
-      (none-orElse _ _ (none-unless _ fillBroken (eq-eqb _ _ (h .spare))) (none-unless _ lengthsDiffer (eq-eqb _ _ (h .whole))))))
+      (none-orElse _ _ (none-unless _ fillBroken (eq-eqb _ _ (h .zeros))) (none-unless _ lengthsDiffer (eq-eqb _ _ (h .whole))))))
 
   pub head-whole : dossierFault s ≡ 0 → (jobAt ≤ length s) × (planAt s ≤ length s) × (noteAt s ≤ length s) × (noteEnd s ≡ length s)
   head-whole h =

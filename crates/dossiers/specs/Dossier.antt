@@ -1,6 +1,6 @@
 -- The dossier: a header with the lengths of job, plan and note, and then the three papers. `dossierFault` is its own first fault,
 -- `checkDossier` the answer for any bytes. `dossierSheet` is the dossier of three papers.
-use Prim.Native.Nat.{ℕ, zero, suc, _+_, _-_, _*_}
+use Prim.Native.Nat.{ℕ, zero, suc, _+_, _-_, _*_, _/_}
 use mathlib.Core.List.{List, [], _∷_, _++_}
 use lib.Dec.{leb, eqb}
 use lib.ListN.{length, take, drop}
@@ -18,8 +18,8 @@ abbrev pub dossierForm : ℕ
 dossierForm = 4
 
 -- zero bits behind the form
-abbrev pub spareBits : ℕ
-spareBits = 4
+abbrev pub zeroBits : ℕ
+zeroBits = 4
 
 -- a paper's length
 abbrev pub lengthBits : ℕ
@@ -27,7 +27,7 @@ lengthBits = 16
 
 -- where the lengths begin, and where they end
 abbrev pub lengthsAt : ℕ
-lengthsAt = formBits + spareBits
+lengthsAt = formBits + zeroBits
 
 abbrev pub dossierHead : ℕ
 dossierHead = lengthsAt + 3 * lengthBits
@@ -43,7 +43,7 @@ abbrev pub lengthIn : List ℕ → ℕ → ℕ
 lengthIn s i = field s (lengthsAt + lengthBits * i) lengthBits
 
 abbrev pub jobAt : ℕ
-jobAt = 7
+jobAt = dossierHead / 8
 
 abbrev pub planAt : List ℕ → ℕ
 planAt s = jobAt + lengthIn s 0
@@ -74,7 +74,7 @@ dossierFault s =
     faultUnless (leb (length s) maxDossier) dossierLong orElse
     runsOut (length s) dossierHead orElse
     formFault s dossierForm orElse
-    faultUnless (eqb (field s formBits spareBits) 0) fillBroken orElse
+    faultUnless (eqb (field s formBits zeroBits) 0) fillBroken orElse
     faultUnless (eqb (noteEnd s) (length s)) lengthsDiffer
 
 -- ---- the check: a plan of length 0 is none
@@ -90,7 +90,7 @@ checkDossier s = ifSound (dossierFault s) (checkNote (jobPart s) (planPart s) (n
 
 abbrev pub headFields : ℕ → ℕ → ℕ → List Field
 headFields job plan note =
-    of formBits dossierForm ∷ of spareBits 0 ∷ of lengthBits job ∷ of lengthBits plan ∷ of lengthBits note ∷ []
+    of formBits dossierForm ∷ of zeroBits 0 ∷ of lengthBits job ∷ of lengthBits plan ∷ of lengthBits note ∷ []
 
 unfoldable pub dossierSheet : List ℕ → List ℕ → List ℕ → List ℕ
 dossierSheet job plan note = pack (headFields (length job) (length plan) (length note)) ++ (job ++ plan ++ note)

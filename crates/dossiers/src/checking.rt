@@ -24,11 +24,11 @@ fn dossier_fault(dossier: &[u8]) -> u32
     ensures { λ r. ⌜ r ≡ dossierFault (now (dossier .entry)) ⌝ }
 {
     let end = JOB_AT + length_in(dossier, 0) + length_in(dossier, 1) + length_in(dossier, 2);
-    let spare = bits::field(dossier, FORM_BITS, SPARE_BITS);
+    let zeros = bits::field(dossier, FORM_BITS, ZERO_BITS);
     let long = fault_unless(dossier.len() <= MAX_DOSSIER, basics::DOSSIER_LONG);
     let short = runs_out(dossier.len(), DOSSIER_HEAD);
     let form = form_fault(dossier, DOSSIER_FORM);
-    let fill = fault_unless(spare == 0, basics::FILL_BROKEN);
+    let fill = fault_unless(zeros == 0, basics::FILL_BROKEN);
     let lengths = fault_unless(end == dossier.len(), basics::LENGTHS_DIFFER);
     or_else(long, or_else(short, or_else(form, or_else(fill, lengths))))
 }

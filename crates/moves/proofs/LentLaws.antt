@@ -27,11 +27,11 @@ use Rattle.sheets.specs.declared.Reading.the-variants.{Read, Refused as Unread}
 use Rattle.sheets.specs.declared.Written.the-variants.{Wrote, Refused}
 use Rattle.sheets.proofs.GroupLaws.{none-fill}
 use Rattle.sheets.proofs.PlanRoundTrip.{plan-read-written}
-use Rattle.rules.specs.Judge.{faultIf, planCost, passOr, judgedIf, ifRead, judgeIf, judge}
+use Rattle.rules.specs.Judge.{faultWith, planCost, passOr, judgedWith, ifRead, judgeWith, judge}
 use Rattle.rules.specs.Meets.{Meets}
 use Rattle.rules.specs.declared.Judged.the-variants.{Passed, Refused as Unfit}
 use Rattle.rules.proofs.JudgeMeets.{judge-passes}
-use Rattle.moves.specs.Moved.{Written}
+use Rattle.moves.specs.Moved.{SheetWritten}
 
 -- ---- a plan read
 
@@ -58,16 +58,16 @@ passed-none zero cost c e = let s : cost ≡ c = cc in (refl, s)
 passed-none (suc k) cost c e = absurd (let z : _≡_ {A = ℕ} 0 1 = cc in omega arith)
 
 papers-read : (order : Bool) (job plan : List ℕ) (c : ℕ) (a b : Reading) → readJob job .answer ≡ a → readPlan plan .answer ≡ b
-    → judgeIf order job plan ≡ Passed c → (a ≡ Read) × (b ≡ Read) × (judgedIf order (readJob job .job) (readPlan plan .plan) ≡ Passed c)
-unfolding judgeIf ifRead
+    → judgeWith order job plan ≡ Passed c → (a ≡ Read) × (b ≡ Read) × (judgedWith order (readJob job .job) (readPlan plan .plan) ≡ Passed c)
+unfolding judgeWith ifRead
 papers-read order job plan c Read Read ea eb e = (refl, refl, rw (ea, eb) at e)
 papers-read order job plan c Read (Unread number paper) ea eb e =
     absurd (let w : Unfit number paper ≡ Passed c = rw (ea, eb) at e in let z : _≡_ {A = ℕ} 0 1 = cc in omega arith)
 papers-read order job plan c (Unread number paper) b ea eb e =
     absurd (let w : Unfit number paper ≡ Passed c = rw ea at e in let z : _≡_ {A = ℕ} 0 1 = cc in omega arith)
 
-module _ (order : Bool) (job plan : List ℕ) (c : ℕ) (passed : judgeIf order job plan ≡ Passed c) where
-  both-read : (readJob job .answer ≡ Read) × (readPlan plan .answer ≡ Read) × (judgedIf order (readJob job .job) (readPlan plan .plan) ≡ Passed c)
+module _ (order : Bool) (job plan : List ℕ) (c : ℕ) (passed : judgeWith order job plan ≡ Passed c) where
+  both-read : (readJob job .answer ≡ Read) × (readPlan plan .answer ≡ Read) × (judgedWith order (readJob job .job) (readPlan plan .plan) ≡ Passed c)
   both-read = papers-read order job plan c (readJob job .answer) (readPlan plan .answer) refl refl passed
 
   pub job-read : readJob job ≡ record { answer = Read; job = readJob job .job }
@@ -76,10 +76,10 @@ module _ (order : Bool) (job plan : List ℕ) (c : ℕ) (passed : judgeIf order 
   pub plan-read : readPlan plan ≡ record { answer = Read; plan = readPlan plan .plan }
   plan-read = λ i. record { answer = both-read .1 i; plan = readPlan plan .plan }
 
-  pub none-broken : (faultIf order (readJob job .job) (readPlan plan .plan) ≡ 0) × (planCost (readJob job .job) (readPlan plan .plan) ≡ c)
-  unfolding judgedIf
+  pub none-broken : (faultWith order (readJob job .job) (readPlan plan .plan) ≡ 0) × (planCost (readJob job .job) (readPlan plan .plan) ≡ c)
+  unfolding judgedWith
   none-broken =
-      passed-none (faultIf order (readJob job .job) (readPlan plan .plan)) (planCost (readJob job .job) (readPlan plan .plan)) c (both-read .2)
+      passed-none (faultWith order (readJob job .job) (readPlan plan .plan)) (planCost (readJob job .job) (readPlan plan .plan)) c (both-read .2)
 
 -- ---- the writer's two ways with a record that has no fault
 
@@ -126,7 +126,7 @@ sheet-size p t z = go (planFault (planSheet p)) refl (plan-read-written p t z)
 
 module _ (p : Plan) (t : PlanShape p) (z : planRecordFault p ≡ 0) where
   pub plan-written : (before after : List ℕ) (size : ℕ) → writePlan p (length before) ≡ Wrote size → after ≡ planSheet p ++ drop size before
-      → Written p before after size
+      → SheetWritten p before after size
   unfolding writePlan
   plan-written before after size e bytes =
       let w = wrote-fits (planRecordFault p) paperPlan ((planEnd (p .n) (p .k) + 7) / 8) (length before) z size e in

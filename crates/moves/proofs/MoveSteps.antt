@@ -2,49 +2,77 @@
 use Prim.Native.Nat.{ℕ, _<_, _≤_}
 use mathlib.Core.Path.{_≡_, sym, ap, _∙_}
 use mathlib.Core.Bool.{Bool, true, false}
-use mathlib.Core.List.{List}
+use mathlib.Core.List.{List, []}
 use native.Mathlib.Omega.{arith}
 use borrow.Author.Tests.{le-leb, lt-leb}
 use lib.Dec.{leb}
 use lib.IntN.{ℤ}
 use lib.ListN.{length}
 use Rattle.basics.specs.Answers.{Promise}
+use Rattle.basics.specs.Faults.{_orElse_, faultUnless}
 use Rattle.basics.specs.Numbers.{distanceFar, movedOut, paperPlan, paperRequest}
 use Rattle.basics.specs.Tables.{within}
 use Rattle.basics.proofs.TableLaws.{each-within}
 use Rattle.sheets.specs.Answers.{output}
 use Rattle.sheets.specs.Limits.{maxOps, maxInsts, maxSteps}
-use Rattle.sheets.specs.PlanSheet.{planRecordFault, planSheet, writePlan, planOut}
+use Rattle.sheets.specs.Groups.{runsOut, formFault}
+use Rattle.sheets.specs.JobSheet.{readJob}
+use Rattle.sheets.specs.PlanSheet.{planHeadFault, planFault, planAnswer, readPlan, planRecordFault, planSheet, writePlan, planOut}
+use Rattle.sheets.specs.declared.JobRead.{JobRead}
+use Rattle.sheets.specs.declared.Reading.{Reading}
+use Rattle.sheets.specs.declared.Reading.the-variants.{Read, Refused as Unread}
 use Rattle.sheets.specs.declared.Job.{Job}
 use Rattle.sheets.specs.declared.Plan.{Plan}
 use Rattle.sheets.specs.declared.Written.{Written}
 use Rattle.sheets.specs.declared.Written.the-variants.{Refused}
 use Rattle.sheets.proofs.PlanFieldLaws.{none-plan}
 use Rattle.sheets.proofs.PlanRoundTrip.{plan-read-sound}
-use Rattle.rules.specs.Judge.{judgeIf, judge, lent}
+use Rattle.rules.specs.Judge.{judgeWith, judge, planBeside, lent}
 use Rattle.rules.specs.Model.{typesOf, timingIn, timingOf}
+use Rattle.rules.specs.declared.Judged.{Judged}
 use Rattle.rules.specs.declared.Judged.the-variants.{Passed, Refused as Unfit}
 use Rattle.rules.specs.declared.Lent.{Lent}
 use Rattle.rules.specs.declared.Timing.{Timing}
+use Rattle.moves.proofs.LentLaws.{job-read}
 use Rattle.moves.specs.Moving.{ifPassed, refusedUnless}
 use Rattle.moves.specs.Slide.{backward, steps, movedStarts, slid, keeps, slidePlan, slide, slideOut}
 use Rattle.moves.specs.Tidy.{tidied, tidy, tidyOut}
 
 -- ---- what was lent
 
+-- beside a job that was not read the plan is what no bytes are read as
+beside-sound : (a : Reading) (plan : List ℕ) → planRecordFault (planBeside a plan) ≡ 0
+unfolding planBeside readPlan planAnswer planFault planHeadFault formFault runsOut faultUnless _orElse_
+beside-sound Read plan = plan-read-sound plan
+beside-sound (Unread number paper) plan = plan-read-sound []
+
 module _ (order : Bool) (job plan : List ℕ) (l : Lent) (e : l ≡ lent order job plan) where
   pub lent-sound : planRecordFault (l .plan) ≡ 0
   unfolding lent
-  lent-sound = rw e (plan-read-sound plan)
+  lent-sound = rw e (beside-sound (readJob job .answer) plan)
+
+  lent-judged : (v : Judged) → l .judged ≡ v → judgeWith order job plan ≡ v
+  unfolding lent
+  lent-judged v h = sym (ap (λ (x : Lent). x .judged) e) ∙ h
+
+  lent-job : l .job ≡ readJob job .job
+  unfolding lent
+  lent-job = ap (λ (x : Lent). x .job) e
+
+  -- where it passed, the plan lent was read
+  lent-plan : (cost : ℕ) → l .judged ≡ Passed cost → l .plan ≡ readPlan plan .plan
+  unfolding lent planBeside
+  lent-plan cost h =
+      ap (λ (x : Lent). x .plan) e ∙ rw (ap (λ (x : JobRead). x .answer) (job-read order job plan cost (lent-judged (Passed cost) h)))
 
   -- the answer `next` of a plan that passed
-  pub lent-passes : (cost : ℕ) (next : Written) → l .judged ≡ Passed cost → ifPassed (judgeIf order job plan) next ≡ next
-  unfolding lent ifPassed
-  lent-passes cost next h = rw (sym (ap (λ (x : Lent). x .judged) e) ∙ h)
+  pub lent-passes : (cost : ℕ) (next : Written) → l .judged ≡ Passed cost → ifPassed (judgeWith order job plan) next ≡ next
+  unfolding ifPassed
+  lent-passes cost next h = rw (lent-judged (Passed cost) h)
 
-  pub lent-unfit : (number paper : ℕ) (next : Written) → l .judged ≡ Unfit number paper → ifPassed (judgeIf order job plan) next ≡ Refused number paper
-  unfolding lent ifPassed
-  lent-unfit number paper next h = rw (sym (ap (λ (x : Lent). x .judged) e) ∙ h)
+  pub lent-unfit : (number paper : ℕ) (next : Written) → l .judged ≡ Unfit number paper → ifPassed (judgeWith order job plan) next ≡ Refused number paper
+  unfolding ifPassed
+  lent-unfit number paper next h = rw (lent-judged (Unfit number paper) h)
 
 -- a plan that was read: its sizes, and starts that a distance can be added to
 pub plan-sizes : (p : Plan) → planRecordFault p ≡ 0 → (p .n ≤ maxOps) × (p .k ≤ maxInsts) × (within (p .starts) maxSteps (p .n) ≡ true)
@@ -112,10 +140,12 @@ module _ (job plan : List ℕ) (l : Lent) where
   pub slide-passed : l ≡ lent true job plan → (d d' : ℤ) → d' ≡ d → (cost : ℕ) → l .judged ≡ Passed cost → (before after : List ℕ) (r : Written)
       → Promise (slidePlan (l .job) (l .plan) d' (length before)) (output (slidePlan (l .job) (l .plan) d' (length before)) (planSheet (slid d' (l .plan))) before) r after
       → Promise (slide job plan d (length before)) (slideOut job plan d before) r after
-  unfolding slide slideOut judge lent
+  unfolding slide slideOut judge
   slide-passed e d d' ed cost h before after r w =
+      let j = lent-job true job plan l e in
+      let p = lent-plan true job plan l e cost h in
       answers (slide job plan d (length before)) (slidePlan (l .job) (l .plan) d' (length before)) r _ _ before after
-      (lent-passes true job plan l e cost _ h ∙ rw (e, ed)) (rw (e, ed)) w
+      (lent-passes true job plan l e cost _ h ∙ sym (rw (j, p, ed))) (sym (rw (p, ed))) w
 
   pub slide-unfit : l ≡ lent true job plan → (d : ℤ) (number paper : ℕ) → l .judged ≡ Unfit number paper → (before : List ℕ)
       → Promise (slide job plan d (length before)) (slideOut job plan d before) (Refused number paper) before
@@ -124,9 +154,10 @@ module _ (job plan : List ℕ) (l : Lent) where
 
   pub tidy-passed : l ≡ lent false job plan → (cost : ℕ) → l .judged ≡ Passed cost → (q : Plan) → q ≡ tidied (l .job) (l .plan) → (before after : List ℕ) (r : Written)
       → Promise (writePlan q (length before)) (planOut q before) r after → Promise (tidy job plan (length before)) (tidyOut job plan before) r after
-  unfolding tidy tidyOut lent
+  unfolding tidy tidyOut
   tidy-passed e cost h q eq before after r w =
-      writes (tidy job plan (length before)) r _ q before after (lent-passes false job plan l e cost _ h) (eq ∙ rw e) w
+      writes (tidy job plan (length before)) r _ q before after (lent-passes false job plan l e cost _ h)
+      (eq ∙ rw (lent-job false job plan l e, lent-plan false job plan l e cost h)) w
 
   pub tidy-unfit : l ≡ lent false job plan → (number paper : ℕ) → l .judged ≡ Unfit number paper → (before : List ℕ)
       → Promise (tidy job plan (length before)) (tidyOut job plan before) (Refused number paper) before

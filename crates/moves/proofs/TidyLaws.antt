@@ -22,7 +22,7 @@ use Rattle.sheets.specs.PlanSheet.{PlanShape, planFits, planRecordFault}
 use Rattle.sheets.specs.declared.Job.{Job}
 use Rattle.sheets.specs.declared.Plan.{Plan}
 use Rattle.sheets.proofs.PlanFieldLaws.{PlanSound, none-plan}
-use Rattle.rules.specs.Judge.{countsFault, placingFault, faultIf, judgeFault, planCost}
+use Rattle.rules.specs.Judge.{countsFault, placingFault, faultWith, judgeFault, planCost}
 use Rattle.rules.specs.Model.{instCount, typesOf, spanOf, inSteps, stepsOf, rowAt, rowTable, timingIn, timingOf}
 use Rattle.rules.specs.Rules.{rowFaultAt, rowsFault, precedenceOk, resourceOk, chainsOk}
 use Rattle.rules.specs.Selection.{selected, orderOk, costAt, selectionCost}
@@ -318,7 +318,7 @@ timing-same types clock kinds times intervals insts insts' h =
 
 -- ---- a plan that breaks no rule but possibly selection order
 
-module _ (j : Job) (p : Plan) (shape : PlanShape p) (written : planRecordFault p ≡ 0) (unbroken : faultIf false j p ≡ 0) where
+module _ (j : Job) (p : Plan) (shape : PlanShape p) (written : planRecordFault p ≡ 0) (unbroken : faultWith false j p ≡ 0) where
   abbrev placeOf : ℕ → ℕ
   placeOf i = movesTo (typesOf j) (p .selection) (p .k) i
 
@@ -348,7 +348,7 @@ module _ (j : Job) (p : Plan) (shape : PlanShape p) (written : planRecordFault p
       × (precedenceOk (j .from) (j .to) (j .e) (p .starts) (timing .delays) ≡ true)
       × (resourceOk (j .n) (p .starts) (p .insts) (timing .spacings) ≡ true)
       × (chainsOk (j .from) (j .to) (j .e) (j .wire) (j .clock) (p .starts) (timing .times) ≡ true)
-  unfolding faultIf placingFault
+  unfolding faultWith placingFault
   parts =
       let a = orElse-none _ _ (orElse-none _ _ unbroken .1) in
       let b = orElse-none _ _ (a .1) in
@@ -427,14 +427,14 @@ module _ (j : Job) (p : Plan) (shape : PlanShape p) (written : planRecordFault p
       resource-says (p .starts) (p .insts) (timing .spacings) (j .n) begun (parts .2) a b la lb d one l)
 
   -- its fault, where its rows take so much
-  abbrev faultWith : Timing → ℕ
-  faultWith taking =
+  abbrev faultTaking : Timing → ℕ
+  faultTaking taking =
       countsFault (p .n) (p .k) (j .n) (instCount j) orElse
       faultUnless (orderOk (typesOf j) newMarks (instCount j)) orderBroken orElse
       rowsFault (j .n) (instCount j) (j .t) (p .starts) newInsts (taking .times) (taking .delays) newMarks orElse
       placingFault (j .n) (j .e) (j .wire) (j .clock) (j .from) (j .to) (p .starts) newInsts taking
 
-  fault-none : faultWith timing ≡ 0
+  fault-none : faultTaking timing ≡ 0
   unfolding countsFault placingFault
   fault-none =
       none-orElse _ _ (none-unless _ countsDiffer (both-and _ _ (eq-eqb _ _ (counts .0)) (eq-eqb _ _ (counts .1))))
@@ -444,8 +444,8 @@ module _ (j : Job) (p : Plan) (shape : PlanShape p) (written : planRecordFault p
       (none-orElse _ _ (none-unless _ resourceBroken resource-kept) (none-unless _ chainBroken (parts .3))))))
 
   pub tidied-passes : judgeFault j (tidied j p) ≡ 0
-  unfolding judgeFault faultIf tidied
-  tidied-passes = subst (λ (taking : Timing). faultWith taking ≡ 0) (sym timing-kept) fault-none
+  unfolding judgeFault faultWith tidied
+  tidied-passes = subst (λ (taking : Timing). faultTaking taking ≡ 0) (sym timing-kept) fault-none
 
   pub tidied-cost : planCost j (tidied j p) ≡ planCost j p
   unfolding planCost tidied

@@ -14,7 +14,7 @@ use Rattle.sheets.specs.declared.Written.{Written}
 use Rattle.sheets.specs.declared.Written.the-variants.{Wrote, Refused}
 use Rattle.sheets.proofs.JobRoundTrip.{job-sound}
 use Rattle.sheets.proofs.PlanRoundTrip.{plan-read-sound}
-use Rattle.rules.specs.Judge.{faultIf, planCost, judgeIf, judge}
+use Rattle.rules.specs.Judge.{faultWith, planCost, judgeWith, judge}
 use Rattle.rules.specs.Meets.{Meets}
 use Rattle.rules.specs.declared.Judged.{Judged}
 use Rattle.rules.specs.declared.Judged.the-variants.{Passed, Refused as Unfit}
@@ -27,14 +27,14 @@ use Rattle.moves.proofs.TidyLaws.{tidied-passes, tidied-cost, tidied-so
 
 -- ---- papers whose plan breaks no rule but possibly selection order
 
-module _ (job plan : List ℕ) (c : ℕ) (passed : judgeIf false job plan ≡ Passed c) where
+module _ (job plan : List ℕ) (c : ℕ) (passed : judgeWith false job plan ≡ Passed c) where
   abbrev j : Job
   j = readJob job .job
 
   abbrev p : Plan
   p = readPlan plan .plan
 
-  none : faultIf false j p ≡ 0
+  none : faultWith false j p ≡ 0
   none = none-broken false job plan c passed .0
 
   -- the plan to be written
@@ -88,9 +88,9 @@ module _ (job plan : List ℕ) (c : ℕ) (passed : judgeIf false job plan ≡ Pa
 pub tidy-written : (job plan before : List ℕ) (size : ℕ) → tidy job plan (length before) ≡ Wrote size
     → Tidies job plan before (tidyOut job plan before) size
 unfolding tidy tidyOut ifPassed output
-tidy-written job plan before size e = go (judgeIf false job plan) refl
+tidy-written job plan before size e = go (judgeWith false job plan) refl
   where
-    go : (v : Judged) → judgeIf false job plan ≡ v → Tidies job plan before (tidyOut job plan before) size
+    go : (v : Judged) → judgeWith false job plan ≡ v → Tidies job plan before (tidyOut job plan before) size
     go (Passed c) h =
         let sheet : List ℕ = planSheet (tidied (readJob job .job) (readPlan plan .plan)) in
         written-says job plan c h before (tidyOut job plan before) size (rw h at e) (ap (λ (r : Written). output r sheet before) e)
@@ -98,9 +98,9 @@ tidy-written job plan before size e = go (judgeIf false job plan) refl
 
 pub tidy-refused : (job plan : List ℕ) (room number paper : ℕ) → tidy job plan room ≡ Refused number paper → TidyRefusal job plan room number paper
 unfolding tidy ifPassed
-tidy-refused job plan room number paper e = go (judgeIf false job plan) refl
+tidy-refused job plan room number paper e = go (judgeWith false job plan) refl
   where
-    go : (v : Judged) → judgeIf false job plan ≡ v → TidyRefusal job plan room number paper
+    go : (v : Judged) → judgeWith false job plan ≡ v → TidyRefusal job plan room number paper
     go (Passed c) h = refused-says job plan c h room number paper (rw h at e)
     go (Unfit number' paper') h =
         let w : Refused number' paper' ≡ Refused number paper = rw h at e in
@@ -110,10 +110,10 @@ tidy-refused job plan room number paper e = go (judgeIf false job plan) refl
 
 -- the sheet written passes, at the cost of the selection lent
 pub tidied-judged : (job plan : List ℕ) (room size : ℕ) → tidy job plan room ≡ Wrote size
-    → judge job (planSheet (tidied (readJob job .job) (readPlan plan .plan))) ≡ judgeIf false job plan
+    → judge job (planSheet (tidied (readJob job .job) (readPlan plan .plan))) ≡ judgeWith false job plan
 unfolding tidy ifPassed
-tidied-judged job plan room size e = go (judgeIf false job plan) refl
+tidied-judged job plan room size e = go (judgeWith false job plan) refl
   where
-    go : (v : Judged) → judgeIf false job plan ≡ v → judge job (planSheet (tidied (readJob job .job) (readPlan plan .plan))) ≡ judgeIf false job plan
+    go : (v : Judged) → judgeWith false job plan ≡ v → judge job (planSheet (tidied (readJob job .job) (readPlan plan .plan))) ≡ judgeWith false job plan
     go (Passed c) h = q-judged job plan c h ∙ sym h
     go (Unfit number paper) h = absurd (let w : Refused number paper ≡ Wrote size = rw h at e in let z : _≡_ {A = ℕ} 0 1 = cc in omega arith)

@@ -15,7 +15,7 @@ use Rattle.sheets.specs.PlanSheet.{PlanShape, readPlan, planRecordFault, planSh
 use Rattle.sheets.specs.declared.Job.{Job}
 use Rattle.sheets.specs.declared.Plan.{Plan}
 use Rattle.sheets.specs.declared.Reading.the-variants.{Read}
-use Rattle.rules.specs.Judge.{planCost, judgeIf, judge}
+use Rattle.rules.specs.Judge.{planCost, judgeWith, judge}
 use Rattle.rules.specs.Meets.{Meets, Passes, Selected, start, inst, delay}
 use Rattle.rules.specs.Model.{instCount, typeOf}
 use Rattle.rules.specs.Rules.{finish}
@@ -24,7 +24,7 @@ use Rattle.moves.specs.Slide.{steps, backward, moved}
 
 -- ---- the plan written is a record that can be; its sheet begins the output, and the rest stays
 
-pub record Written (q : Plan) (before after : List ℕ) (size : ℕ) : Type 0 where
+pub record SheetWritten (q : Plan) (before after : List ℕ) (size : ℕ) : Type 0 where
   pub shape : PlanShape q
   pub sound : planRecordFault q ≡ 0
   pub fits : size ≤ length before
@@ -50,7 +50,7 @@ pub record Slides (job plan : List ℕ) (d : ℤ) (before after : List ℕ) (siz
   pub slid : SlidBy d (passes .asPlan) asPlan
   pub meets : Meets (passes .asJob) asPlan
   pub costs : planCost (passes .asJob) asPlan ≡ cost
-  pub written : Written asPlan before after size
+  pub written : SheetWritten asPlan before after size
 
 -- operation o, moved, starts before step 1 or ends behind T
 abbrev pub Leaves : ℤ → Job → Plan → ℕ → Type 0
@@ -89,7 +89,7 @@ pub record TidiedTo (j : Job) (p q : Plan) : Type 0 where
 -- the plan lent breaks no rule but possibly selection order, and the plan written is the one lent, tidied; that passes, at the same cost
 pub record Tidies (job plan before after : List ℕ) (size : ℕ) : Type 0 where
   pub cost : ℕ
-  pub unbroken : judgeIf false job plan ≡ Passed cost
+  pub unbroken : judgeWith false job plan ≡ Passed cost
   pub asJob : Job
   pub jobRead : readJob job ≡ record { answer = Read; job = asJob }
   pub lent : Plan
@@ -99,11 +99,11 @@ pub record Tidies (job plan before after : List ℕ) (size : ℕ) : Type 0 where
   pub meets : Meets asJob asPlan
   pub costs : planCost asJob asPlan ≡ cost
   pub costs-lent : planCost asJob lent ≡ cost
-  pub written : Written asPlan before after size
+  pub written : SheetWritten asPlan before after size
 
 -- the judge, not asked for selection order, refuses the papers lent; or the output is too short
 pub data TidyRefusal (job plan : List ℕ) (room number paper : ℕ) : Type 0 where
-  unfit : judgeIf false job plan ≡ Unfit number paper → TidyRefusal job plan room number paper
-  short : (cost : ℕ) → judgeIf false job plan ≡ Passed cost
+  unfit : judgeWith false job plan ≡ Unfit number paper → TidyRefusal job plan room number paper
+  short : (cost : ℕ) → judgeWith false job plan ≡ Passed cost
       → (q : Plan) → TidiedTo (readJob job .job) (readPlan plan .plan) q → Meets (readJob job .job) q → room < length (planSheet q)
       → number ≡ outputShort → paper ≡ paperRequest → TidyRefusal job plan room number paper

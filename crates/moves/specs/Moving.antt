@@ -1,4 +1,4 @@
--- What both moves share: a plan that the judge refuses is not moved (`ifPassed`), and a test can refuse it (`refusedUnless`).
+-- What both moves share: a plan is moved where judging passes it (`ifPassed`), and a test can refuse it (`refusedUnless`).
 use Prim.Native.Nat.{ℕ}
 use mathlib.Core.Bool.{Bool, true, false}
 use Rattle.sheets.specs.declared.Written.{Written}

@@ -14,21 +14,21 @@ use Rattle.sheets.specs.PlanSheet.{readPlan, planSheet, writePlan}
 use Rattle.sheets.specs.declared.Job.{Job}
 use Rattle.sheets.specs.declared.Plan.{Plan}
 use Rattle.sheets.specs.declared.Written.{Written}
-use Rattle.rules.specs.Judge.{judgeIf}
+use Rattle.rules.specs.Judge.{judgeWith}
 use Rattle.rules.specs.Model.{typesOf}
 use Rattle.rules.specs.Selection.{selected}
 use Rattle.moves.specs.Moving.{ifPassed}
 
 -- ---- where an instance moves to: past each unselected one of its type that is behind it
 
--- instance i moves past instance k
+-- instance i moves past instance `other`
 unfoldable pub movesPast : List ℕ → List ℕ → ℕ → ℕ → Bool
-movesPast types selection i k = ltb i k && eqb (cell types k) (cell types i) && not (selected selection k)
+movesPast types selection i other = ltb i other && eqb (cell types other) (cell types i) && not (selected selection other)
 
 abbrev pub pastAt : List ℕ → List ℕ → ℕ → ℕ → ℕ
-pastAt types selection i k = only (movesPast types selection i k) 1
+pastAt types selection i other = only (movesPast types selection i other) 1
 
--- of k instances
+-- where instance i of k moves to
 unfoldable pub movesTo : List ℕ → List ℕ → ℕ → ℕ → ℕ
 movesTo types selection k i = i + sumTo (pastAt types selection i) k
 
@@ -70,7 +70,7 @@ tidied j p =
 -- ---- the answer, into an output of `room` bytes: selection order is not asked
 
 unfoldable pub tidy : List ℕ → List ℕ → ℕ → Written
-tidy job plan room = ifPassed (judgeIf false job plan) (writePlan (tidied (readJob job .job) (readPlan plan .plan)) room)
+tidy job plan room = ifPassed (judgeWith false job plan) (writePlan (tidied (readJob job .job) (readPlan plan .plan)) room)
 
 -- the output's bytes after it, where they were `before`
 unfoldable pub tidyOut : List ℕ → List ℕ → List ℕ → List ℕ

@@ -1,3 +1,3 @@
-// What is done with a plan that passed: slide and tidy.
+// What is done with a plan that was judged: slide and tidy.
 pub mod sliding; // slide
 pub mod tidying; // tidy

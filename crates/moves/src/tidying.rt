@@ -19,11 +19,11 @@ use sheets::Written;
 use sheets::limits::*;
 use sheets::plans::write_plan;
 
-// Instance i moves past instance k: an unselected one of its type, behind it.
-fn moves_past<'a>(types: &'a [u16], selection: &'a [u16], i: usize, k: usize) -> bool
-    ensures { λ r. ⌜ r ≡ movesPast (now (types .entry)) (now (selection .entry)) i k ⌝ }
+// Instance i moves past instance `other`: an unselected one of its type, behind it.
+fn moves_past<'a>(types: &'a [u16], selection: &'a [u16], i: usize, other: usize) -> bool
+    ensures { λ r. ⌜ r ≡ movesPast (now (types .entry)) (now (selection .entry)) i other ⌝ }
 {
-    (i < k) & (cell(types, k) == cell(types, i)) & !selected(selection, k)
+    (i < other) & (cell(types, other) == cell(types, i)) & !selected(selection, other)
 }
 
 // Where instance i of k moves to.

@@ -17,7 +17,7 @@ use Rattle.sheets.specs.PlanSheet.{planHeadFault, planFault, planAnswer, readPl
 use Rattle.sheets.specs.declared.Job.{Job}
 use Rattle.sheets.specs.declared.Reading.{Reading}
 use Rattle.sheets.specs.declared.Reading.the-variants.{Read, Refused as Unread}
-use Rattle.rules.specs.Judge.{judged, ifRead as ifPaper, judgeIf, judge}
+use Rattle.rules.specs.Judge.{judged, ifRead as ifPaper, judgeWith, judge}
 use Rattle.rules.specs.Meets.{Passes}
 use Rattle.rules.specs.declared.Judged.{Judged}
 use Rattle.rules.specs.declared.Judged.the-variants.{Passed, Refused as Unfit}
@@ -108,7 +108,7 @@ module _ (job plan : List ℕ) where
 
   -- a claim beside a plan is the judge's
   pub claimed-judge : (length plan ≡ 0 → ⊥) → asked job plan .claimed ≡ claimBy (judge job plan)
-  unfolding asked claimOf ifLent judge judgeIf judged
+  unfolding asked claimOf ifLent judge judgeWith judged
   claimed-judge h = rw (ne-eqb (length plan) 0 h) (same-papers (readJob job .answer) (readPlan plan .answer) (judged (readJob job .job) (readPlan plan .plan)))
 
   -- ---- the job that a claim is of was read

@@ -24,7 +24,7 @@ use Rattle.sheets.proofs.JobRoundTrip.{job-sound}
 use Rattle.sheets.proofs.RecordLaws.{JobSound}
 use Rattle.rules.specs.Model.{instCount, typesOf, timeOf, delayOf, spacingOf, inSteps, rowAt, rowTable, timingIn, unitTable}
 use Rattle.rules.specs.Rules.{placed, rowFault, rowFaultAt, rowsFault, precedenceOk, resourceOk, chainsOk}
-use Rattle.rules.specs.Judge.{countsFault, placingFault, faultIf, judgeFault, planCost}
+use Rattle.rules.specs.Judge.{countsFault, placingFault, faultWith, judgeFault, planCost}
 use Rattle.rules.specs.Meets.{Link, Joined, AllIn, runTotal, RunsFit, start, inst, time, Meets}
 use Rattle.rules.proofs.JudgeMeets.{none-exactly}
 use Rattle.rules.proofs.ModelLaws.{unit-cell}
@@ -57,7 +57,7 @@ module _ (j : Job) (starts insts : List ℕ) where
       × (chainsOk (j .from) (j .to) (j .e) (j .wire) (j .clock) starts (rowTable (timeOf j) insts) ≡ true)
 
 judged-tests : (j : Job) (q : Plan) → judgeFault j q ≡ 0 → Tests j (q .starts) (q .insts)
-unfolding judgeFault faultIf placingFault timingIn
+unfolding judgeFault faultWith placingFault timingIn
 judged-tests j q h =
     let a = orElse-none _ _ (orElse-none _ _ (orElse-none _ _ h .1) .1) in
     let b = orElse-none _ _ (a .1) in
@@ -136,7 +136,7 @@ module _ (sheet : List ℕ) (j : Job) (read : readJob sheet ≡ record { answer 
   row-cell f insts o l = cell-cells (rowAt f insts) opCells opCells o (omega (arith, sound .counts .ops)) (omega arith)
 
   leaf-judged : (p : Placing) → PlacedTo (boardOf j) (boardOf j .n) p → live (boardOf j) p ≡ true → judgeFault j (planFrom (boardOf j) p) ≡ 0
-  unfolding judgeFault faultIf placingFault countsFault rowsFault rowFaultAt timingIn boardOf
+  unfolding judgeFault faultWith placingFault countsFault rowsFault rowFaultAt timingIn boardOf
   leaf-judged p w alive =
       let narrow = leaf-narrow p w in
       let t = live-tests p narrow alive in

@@ -28,7 +28,7 @@ use Rattle.rules.specs.declared.Judged.{Judged}
 use Rattle.rules.specs.declared.Judged.the-variants.{Passed, Refused}
 use Rattle.rules.specs.declared.Timing.{Timing}
 use Rattle.rules.specs.Rules.{rowFaultAt, rowsFault, joins, placed, linkOk, precedenceOk, resourceOk, chainsOk}
-use Rattle.rules.specs.Judge.{countsFault, placingFault, faultIf, judgeFault, planCost, passOr, judgedIf, judged, ifRead, judgeIf, judge}
+use Rattle.rules.specs.Judge.{countsFault, placingFault, faultWith, judgeFault, planCost, passOr, judgedWith, judged, ifRead, judgeWith, judge}
 use Rattle.rules.specs.Meets.{Link, Joined, runTotal, RunsFit, start, inst, time, delay, spacing, Row, Meets, Passes, maxCost}
 use Rattle.rules.proofs.ChainRule.{chain-rule}
 use Rattle.rules.proofs.JudgeLaws.{counts-agree}
@@ -58,7 +58,7 @@ module _ (j : Job) (p : Plan) (sound : JobSound j) where
       × (chainsOk (j .from) (j .to) (j .e) (j .wire) (j .clock) (p .starts) (timing .times) ≡ true)
 
   parts : judgeFault j p ≡ 0 → Parts
-  unfolding judgeFault faultIf placingFault
+  unfolding judgeFault faultWith placingFault
   parts h =
       let a = orElse-none _ _ (orElse-none _ _ h .1) in
       let b = orElse-none _ _ (a .1) in
@@ -67,7 +67,7 @@ module _ (j : Job) (p : Plan) (sound : JobSound j) where
       (unless-none _ orderBroken (lit< tt) (a .0), b .0, unless-none _ precedenceBroken (lit< tt) (d .0), unless-none _ resourceBroken (lit< tt) (e .0), unless-none _ chainBroken (lit< tt) (e .1))
 
   whole : p .n ≡ j .n → p .k ≡ instCount j → Parts → judgeFault j p ≡ 0
-  unfolding judgeFault faultIf placingFault countsFault
+  unfolding judgeFault faultWith placingFault countsFault
   whole n k h =
       none-orElse _ _ (none-unless _ countsDiffer (both-and _ _ (eq-eqb _ _ n) (eq-eqb _ _ k)))
       (none-orElse _ _ (none-unless _ orderBroken (h .0))
@@ -219,13 +219,13 @@ module _ (job plan : List ℕ) (c : ℕ) where
   -- a pass of two papers
   papers-read : (a b : Reading) → readJob job .answer ≡ a → readPlan plan .answer ≡ b → judge job plan ≡ Passed c
       → (a ≡ Read) × (b ≡ Read) × (judged (readJob job .job) (readPlan plan .plan) ≡ Passed c)
-  unfolding judge judgeIf judged ifRead
+  unfolding judge judgeWith judged ifRead
   papers-read Read Read ea eb e = (refl, refl, rw (ea, eb) at e)
   papers-read Read (Unread number paper) ea eb e = absurd (let z : 0 ≡ 1 = ap isPass (rw (ea, eb) at e) in omega arith)
   papers-read (Unread number paper) b ea eb e = absurd (let z : 0 ≡ 1 = ap isPass (rw ea at e) in omega arith)
 
   pass-meets : judge job plan ≡ Passed c → Passes job plan c
-  unfolding judged judgedIf judgeFault
+  unfolding judged judgedWith judgeFault
   pass-meets e =
       let w = papers-read (readJob job .answer) (readPlan plan .answer) refl refl e in
       let j : readJob job ≡ record { answer = Read; job = readJob job .job } = λ i. record { answer = w .0 i; job = readJob job .job } in
@@ -241,7 +241,7 @@ module _ (job plan : List ℕ) (c : ℕ) where
       }
 
   meets-pass : Passes job plan c → judge job plan ≡ Passed c
-  unfolding judge judgeIf ifRead judgedIf judgeFault passOr
+  unfolding judge judgeWith ifRead judgedWith judgeFault passOr
   meets-pass m =
       let z = none-exactly (m .asJob) (m .asPlan) (job-sound job (m .asJob) (m .jobRead)) .1 (m .meets) in
       rw (m .jobRead, m .planRead, z) (ap (λ (x : ℕ). Passed x) (sym (m .cost)))

@@ -1,5 +1,5 @@
--- What the judge answers for any bytes: `judge`; `judgedSays` gives each case in numbers. `judgeIf` asks selection order or not,
--- and `lent` has the records beside its answer: what is done with a plan that was judged starts from there.
+-- What the judge answers for any bytes: `judge`; `judgedSays` gives each case in numbers. `judgeWith` is told whether selection order
+-- is asked, and `lent` has the records beside its answer: what is done with a plan that was judged starts from there.
 use Prim.Native.Nat.{ℕ, zero, suc}
 use mathlib.Core.Bool.{Bool, true, not, _||_, _&&_}
 use mathlib.Core.List.{List}
@@ -9,7 +9,7 @@ use Rattle.basics.specs.Faults.{_orElse_, faultUnless}
 use Rattle.basics.specs.Numbers.{countsDiffer, orderBroken, precedenceBroken, resourceBroken, chainBroken, paperPlan, outcomePassed}
 use Rattle.basics.specs.declared.Answer.{Answer}
 use Rattle.sheets.specs.JobSheet.{readJob}
-use Rattle.sheets.specs.PlanSheet.{readPlan}
+use Rattle.sheets.specs.PlanSheet.{noPlan, readPlan}
 use Rattle.sheets.specs.declared.Job.{Job}
 use Rattle.sheets.specs.declared.Plan.{Plan}
 use Rattle.sheets.specs.declared.Reading.{Reading}
@@ -36,8 +36,8 @@ placingFault n e wire clock from to starts insts timing =
     faultUnless (chainsOk from to e wire clock starts (timing .times)) chainBroken
 
 -- of all rules, with selection order or without
-unfoldable pub faultIf : Bool → Job → Plan → ℕ
-faultIf order j p =
+unfoldable pub faultWith : Bool → Job → Plan → ℕ
+faultWith order j p =
     let timing = timingOf j (p .insts) in
     countsFault (p .n) (p .k) (j .n) (instCount j) orElse
     faultUnless (not order || orderOk (typesOf j) (p .selection) (instCount j)) orderBroken orElse
@@ -45,7 +45,7 @@ faultIf order j p =
     placingFault (j .n) (j .e) (j .wire) (j .clock) (j .from) (j .to) (p .starts) (p .insts) timing
 
 unfoldable pub judgeFault : Job → Plan → ℕ
-judgeFault j p = faultIf true j p
+judgeFault j p = faultWith true j p
 
 unfoldable pub planCost : Job → Plan → ℕ
 planCost j p = selectionCost (j .costs) (typesOf j) (selected (p .selection)) (instCount j)
@@ -57,27 +57,32 @@ unfoldable pub passOr : ℕ → ℕ → Judged
 passOr zero cost = Passed cost
 passOr (suc k) cost = Refused (suc k) paperPlan
 
-unfoldable pub judgedIf : Bool → Job → Plan → Judged
-judgedIf order j p = passOr (faultIf order j p) (planCost j p)
+unfoldable pub judgedWith : Bool → Job → Plan → Judged
+judgedWith order j p = passOr (faultWith order j p) (planCost j p)
 
 unfoldable pub judged : Job → Plan → Judged
-judged j p = judgedIf true j p
+judged j p = judgedWith true j p
 
 -- a paper that cannot be read ends the question there (`Unread` is the readers' `Refused`)
 unfoldable pub ifRead : Reading → Judged → Judged
 ifRead Read next = next
 ifRead (Unread number paper) next = Refused number paper
 
-unfoldable pub judgeIf : Bool → List ℕ → List ℕ → Judged
-judgeIf order job plan =
-    ifRead (readJob job .answer) (ifRead (readPlan plan .answer) (judgedIf order (readJob job .job) (readPlan plan .plan)))
+unfoldable pub judgeWith : Bool → List ℕ → List ℕ → Judged
+judgeWith order job plan =
+    ifRead (readJob job .answer) (ifRead (readPlan plan .answer) (judgedWith order (readJob job .job) (readPlan plan .plan)))
 
 unfoldable pub judge : List ℕ → List ℕ → Judged
-judge job plan = judgeIf true job plan
+judge job plan = judgeWith true job plan
 
--- with the records beside the answer, of zeros where a paper cannot be read
+-- the plan beside a job that was read; beside one that was not, no plan is read, and it is zeros
+unfoldable pub planBeside : Reading → List ℕ → Plan
+planBeside Read plan = readPlan plan .plan
+planBeside (Unread number paper) plan = noPlan
+
+-- the answer, with the records beside it
 unfoldable pub lent : Bool → List ℕ → List ℕ → Lent
-lent order job plan = record { judged = judgeIf order job plan; job = readJob job .job; plan = readPlan plan .plan }
+lent order job plan = record { judged = judgeWith order job plan; job = readJob job .job; plan = planBeside (readJob job .answer) plan }
 
 -- ---- each case in its numbers
 

@@ -1,6 +1,7 @@
 // The judge: a plan passes exactly when it meets every rule.
 ghost use mathlib.Core.Path.{_≡_};
-ghost use Rattle.rules.specs.Judge.{countsFault, placingFault, passOr, judgedIf, judged as judgedBy, ifRead, lent as lentOf, judge as judgeOf, judgedSays as saysOf};
+ghost use Rattle.sheets.specs.PlanSheet.{noPlan};
+ghost use Rattle.rules.specs.Judge.{countsFault, placingFault, passOr, judgedWith, judged as judgedBy, ifRead, lent as lentOf, judge as judgeOf, judgedSays as saysOf};
 ghost use Rattle.rules.specs.declared.Judged.the-variants.{Refused};
 use crate::Judged;
 use crate::Lent;
@@ -21,6 +22,7 @@ use sheets::Job;
 use sheets::Plan;
 use sheets::Reading;
 use sheets::jobs::read_job;
+use sheets::limits::*;
 use sheets::plans::read_plan;
 
 // A plan of so many operations and instances, for a job of n and k.
@@ -70,8 +72,8 @@ fn pass_or(fault: u32, cost: u32) -> Judged
 }
 
 // A plan passes at its cost, or is refused by the first rule that it breaks, with selection order asked or not.
-pub fn judged_if(order: bool, job: Job, plan: Plan) -> Judged
-    ensures { λ r. ⌜ r ≡ judgedIf order job plan ⌝ }
+pub fn judged_with(order: bool, job: Job, plan: Plan) -> Judged
+    ensures { λ r. ⌜ r ≡ judgedWith order job plan ⌝ }
 {
     let n = job.n;
     let k = inst_count(&job.copies, job.m);
@@ -118,7 +120,7 @@ pub fn judged_if(order: bool, job: Job, plan: Plan) -> Judged
 pub fn judged(job: Job, plan: Plan) -> Judged
     ensures { λ r. ⌜ r ≡ judgedBy job plan ⌝ }
 {
-    judged_if(true, job, plan)
+    judged_with(true, job, plan)
 }
 
 // The answer on a paper that could not be read; none that was read comes here.
@@ -134,23 +136,37 @@ fn unread(answer: Reading) -> Judged
     }
 }
 
-// Reads a job sheet and a plan sheet, and judges the plan. A paper that cannot be read ends the question there.
+// The plan beside a job that could not be read: zeros.
+fn no_plan() -> Plan
+    ensures { λ r. ⌜ r ≡ noPlan ⌝ }
+{
+    Plan {
+        n: 0,
+        k: 0,
+        selection: [0u16; INST_CELLS],
+        starts: [0u16; OP_CELLS],
+        insts: [0u16; OP_CELLS],
+    }
+}
+
+// Reads a job sheet and a plan sheet, and judges the plan, with selection order asked or not. A paper that cannot be read ends
+// the question there.
 pub fn lend(order: bool, job: &[u8], plan: &[u8]) -> Lent
     ensures { λ r. ⌜ r ≡ lentOf order (now (job .entry)) (now (plan .entry)) ⌝ }
 {
     let job_read = read_job(job);
-    let plan_read = read_plan(plan);
     let job_answer = job_read.answer;
-    let plan_answer = plan_read.answer;
     let job_record = job_read.job;
-    let plan_record = plan_read.plan;
     let Reading::Read = job_answer else {
         return Lent {
             judged: unread(job_answer),
             job: job_record,
-            plan: plan_record,
+            plan: no_plan(),
         };
     };
+    let plan_read = read_plan(plan);
+    let plan_answer = plan_read.answer;
+    let plan_record = plan_read.plan;
     let Reading::Read = plan_answer else {
         return Lent {
             judged: unread(plan_answer),
@@ -159,7 +175,7 @@ pub fn lend(order: bool, job: &[u8], plan: &[u8]) -> Lent
         };
     };
     Lent {
-        judged: judged_if(order, job_record, plan_record),
+        judged: judged_with(order, job_record, plan_record),
         job: job_record,
         plan: plan_record,
     }

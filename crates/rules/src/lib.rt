@@ -27,7 +27,7 @@ pub enum Judged {
     Refused { number: u32, paper: u32 },
 }
 
-// The judge's answer, beside the job and the plan that were read.
+// The judge's answer, beside the job and the plan, each zeros where it was not read.
 pub struct Lent {
     pub judged: Judged,
     pub job: sheets::Job,

@@ -154,11 +154,11 @@ fn report(comparison: &Comparison, seed: u64, count: usize) -> ExitCode {
     println!("\nrefusals met, by paper and number, with the search's 30 (spent) and 31 (none);");
     println!("alone, plans that break no other rule:");
     println!("{}", tally.table());
-    let met_too_seldom = tally.met_too_seldom();
-    for line in &met_too_seldom {
+    let amiss = [tally.unheard_of(), tally.met_too_seldom()].concat();
+    for line in &amiss {
         println!("{line}");
     }
-    if met_too_seldom.is_empty() {
+    if amiss.is_empty() {
         ExitCode::SUCCESS
     } else {
         ExitCode::FAILURE

@@ -125,6 +125,23 @@ impl Tally {
         lines
     }
 
+    /// One line for each refusal that an entry gave and that document 01 does not have it give.
+    pub fn unheard_of(&self) -> Vec<String> {
+        let mut lines = Vec::new();
+        for (&(entry, outcome), times) in &self.answers {
+            let Outcome::Refused { paper, number } = outcome else {
+                continue;
+            };
+            if !refusals_of(entry).contains(&(paper, number)) {
+                let name = entry.name();
+                lines.push(format!(
+                    "{name}, refusal {number}, paper {paper}: met {times} times, and never should be"
+                ));
+            }
+        }
+        lines
+    }
+
     /// Entries across, papers and numbers down; behind them how often the number was that of the one rule broken.
     pub fn table(&self) -> String {
         let names = Entry::ALL.map(|entry| entry.name().to_string());
@@ -211,6 +228,20 @@ mod tests {
         assert!(!missing
             .iter()
             .any(|line| line.contains("refusal 22, paper 4") && line.contains("job writer")));
+    }
+
+    #[test]
+    fn a_refusal_that_is_not_the_entrys_is_named() {
+        let mut tally = Tally::new();
+        let refused = Answer::refused(Refusal {
+            fault: Fault::SelectionOrder,
+            paper: Paper::Plan,
+        });
+        tally.count(Entry::Judge, &refused);
+        assert!(tally.unheard_of().is_empty());
+        tally.count(Entry::Tidy, &refused);
+        let line = "tidy, refusal 11, paper 1: met 1 times, and never should be";
+        assert_eq!(tally.unheard_of(), [line]);
     }
 
     #[test]

@@ -4,12 +4,12 @@ use Rattle.rules.specs.Judge.{judged}
 use Rattle.rules.proofs.judging.judged.Statement.{statement}
 use Rattle.rules.proofs.judging.judged.Tie as tie
 
-judged-if-requires : tie.Need-judged-if-requires
-judged-if-requires c κs = search needs
+judged-with-requires : tie.Need-judged-with-requires
+judged-with-requires c κs = search needs
 
 returns : tie.Need-returns
 unfolding judged
-returns c = c .judged-if .ensures
+returns c = c .judged-with .ensures
 
 pub judged-spec : {M : Type 1} → statement M
-judged-spec = tie.close (tie.spec judged-if-requires returns)
+judged-spec = tie.close (tie.spec judged-with-requires returns)

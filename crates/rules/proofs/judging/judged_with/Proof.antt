@@ -1,11 +1,11 @@
 -- The rules are tested one by one; the first fault refuses.
 use mathlib.Core.Path.{_≡_}
 use borrow.Author.Needs.{needs}
-use Rattle.rules.specs.Judge.{faultIf}
+use Rattle.rules.specs.Judge.{faultWith}
 use Rattle.rules.proofs.JudgeLaws.{fault-is, judged-is}
 use Rattle.rules.proofs.ModelLaws.{types-counted}
-use Rattle.rules.proofs.judging.judged_if.Statement.{statement}
-use Rattle.rules.proofs.judging.judged_if.Tie as tie
+use Rattle.rules.proofs.judging.judged_with.Statement.{statement}
+use Rattle.rules.proofs.judging.judged_with.Tie as tie
 
 -- where the types are at hand, and where the function starts
 abbrev b46 : tie.After-or-else3 → tie.After-types-in
@@ -18,7 +18,7 @@ abbrev b54 : tie.After-or-else3 → tie.Start
 b54 c = b46 c .before .before .before .before .before .before .before .before
 
 -- the first fault
-fault : (c : tie.After-or-else3) → c .or-else3 .result ≡ faultIf (b54 c .args .order) (b54 c .args .t2) (b54 c .args .t3)
+fault : (c : tie.After-or-else3) → c .or-else3 .result ≡ faultWith (b54 c .args .order) (b54 c .args .t2) (b54 c .args .t3)
 fault c =
     let b4 = c .before .before .before .before in
     let b15 = b4 .before .before .before .before .before .before .before .before .before .before .before in
@@ -81,8 +81,8 @@ returns c =
     let b9 = c .before .before .before .before .before .before .before .before .before in
     judged-is _ _ _ _ _ _ (fault b9) (rw (b46 b9 .types-in .ensures) at (c .before .selection-cost .ensures)) (c .pass-or .ensures)
 
-pub judged-if-spec : {M : Type 1} → statement M
-judged-if-spec =
+pub judged-with-spec : {M : Type 1} → statement M
+judged-with-spec =
     tie.close
     (tie.spec
     inst-count-requires
