@@ -1,10 +1,9 @@
 -- A dossier without a fault is checked by its three parts.
 use borrow.Author.Needs.{needs}
-use Prim.Native.Nat.{_+_, _≤_}
+use Prim.Native.Nat.{_+_}
 use mathlib.Core.Path.{_≡_, sym, _∙_}
 use native.Mathlib.Omega.{arith}
 use lib.ListN.{length}
-use Rattle.dossiers.specs.Dossier.{lengthIn, noteEnd}
 use Rattle.dossiers.proofs.PartLaws.{head-whole}
 use Rattle.dossiers.proofs.DossierLaws.{sound-checked, faulty-refused}
 use Rattle.dossiers.proofs.checking.check_dossier.Statement.{statement}

@@ -3,8 +3,6 @@ use borrow.Author.Needs.{needs}
 use Prim.Native.Nat.{_-_, _≤_}
 use mathlib.Core.Path.{_≡_}
 use native.Mathlib.Omega.{arith}
-use mathlib.Core.Bool.{_&&_}
-use lib.Dec.{leb}
 use Rattle.basics.specs.Counting.{allTo}
 use Rattle.basics.proofs.CountLaws.{allTo-more}
 use Rattle.moves.specs.Slide.{keepsAt, keeps}

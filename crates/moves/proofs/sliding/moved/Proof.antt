@@ -1,6 +1,5 @@
 -- A start is moved on, or back as far as there are steps.
 use borrow.Author.Needs.{needs}
-use mathlib.Core.Path.{refl}
 use native.Mathlib.Omega.{arith}
 use borrow.Author.Tests.{not-true, not-false}
 use Rattle.moves.specs.Slide.{moved}

@@ -5,7 +5,7 @@ use mathlib.Core.Path.{_≡_}
 use native.Mathlib.Omega.{arith}
 use Rattle.basics.specs.Tables.{cells, filled}
 use Rattle.basics.proofs.TableLaws.{filled-more, within-each}
-use Rattle.sheets.specs.Limits.{maxOps, maxSteps, opCells}
+use Rattle.sheets.specs.Limits.{maxSteps, opCells}
 use Rattle.moves.specs.Slide.{movedAt}
 use Rattle.moves.proofs.sliding.moved_starts.Statement.{statement}
 use Rattle.moves.proofs.sliding.moved_starts.Tie as tie

@@ -58,7 +58,10 @@ returns-2 c =
     let b28 = b22 .before .before .before .before .before .before in
     let s = b28 .before .before in
     let read = same (s .args .distance) (s .fits .distance) in
-    slide-out _ _ _ _ (b28 .steps .ensures ∙ ap (λ (z : ℤ). steps z) read) (b22 .before .before .before .before .before .if1 .left) _ _ _ _ _ (b22 .before .before .before .before .backward .ensures ∙ ap (λ (z : ℤ). backward z) read) (b22 .moved-starts .ensures) (b18 .types-in .ensures) (b6 .timing-in .ensures)
+    slide-out _ _ _ _
+    (b28 .steps .ensures ∙ ap (λ (z : ℤ). steps z) read)
+    (b22 .before .before .before .before .before .if1 .left) _ _ _ _ _ (b22 .before .before .before .before .backward .ensures ∙ ap (λ (z : ℤ). backward z) read)
+    (b22 .moved-starts .ensures) (b18 .types-in .ensures) (b6 .timing-in .ensures)
     (c .before .keeps .ensures) _ (not-true _ (c .if2 .taken))
 
 write-plan-requires : tie.Need-write-plan-requires
@@ -76,7 +79,10 @@ returns-3 c =
     let b34 = b28 .before .before .before .before .before .before in
     let s = b34 .before .before in
     let read = same (s .args .distance) (s .fits .distance) in
-    slide-writes _ _ _ _ (b34 .steps .ensures ∙ ap (λ (z : ℤ). steps z) read) (b28 .before .before .before .before .before .if1 .left) _ _ _ _ _ (b28 .before .before .before .before .backward .ensures ∙ ap (λ (z : ℤ). backward z) read) (b28 .moved-starts .ensures) (b24 .types-in .ensures) (b12 .timing-in .ensures)
+    slide-writes _ _ _ _
+    (b34 .steps .ensures ∙ ap (λ (z : ℤ). steps z) read)
+    (b28 .before .before .before .before .before .if1 .left) _ _ _ _ _ (b28 .before .before .before .before .backward .ensures ∙ ap (λ (z : ℤ). backward z) read)
+    (b28 .moved-starts .ensures) (b24 .types-in .ensures) (b12 .timing-in .ensures)
     (b6 .before .keeps .ensures) _ _ _ (not-false _ (b6 .if2 .left)) _ refl (c .before .before .write-plan .ensures .0)
 
 pub slide-plan-spec : {M : Type 1} → statement M

@@ -5,7 +5,7 @@ use mathlib.Core.Path.{_≡_}
 use native.Mathlib.Omega.{arith}
 use Rattle.basics.specs.Counting.{sumTo}
 use Rattle.basics.proofs.CountLaws.{sumTo-more, only-small}
-use Rattle.moves.specs.Tidy.{movesPast, pastAt, movesTo}
+use Rattle.moves.specs.Tidy.{pastAt, movesTo}
 use Rattle.moves.proofs.tidying.moves_to.Statement.{statement}
 use Rattle.moves.proofs.tidying.moves_to.Tie as tie
 
