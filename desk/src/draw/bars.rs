@@ -1,0 +1,132 @@
+//! A plan's rows as bars: which can be drawn, when each operation works, and in which lane of its instance.
+
+use crate::record::{Job, Plan, Work, INST_CELLS};
+use std::ops::Range;
+
+/// An operation that has its place in the grid. Spans are in ns from the beginning of step 1.
+pub struct Bar {
+    pub operation: usize,
+    pub kind: u16,
+    pub start: usize,
+    pub instance: usize,
+    pub timing: Work,
+    pub steps: Range<u32>,
+    /// After this its unit can take the next operation.
+    pub busy: Range<u32>,
+    /// In a chain it begins when results have arrived; where the chain is too long it leaves the steps.
+    pub work: Range<u32>,
+    pub lane: usize,
+}
+
+/// What a link is between two bars.
+#[derive(Clone, Copy, PartialEq, Eq, PartialOrd, Ord)]
+pub enum Bond {
+    Link,
+    Chain,
+    /// The second starts too early.
+    Broken,
+}
+
+impl Bond {
+    pub fn of(first: &Bar, second: &Bar) -> Bond {
+        let one_step = first.start == second.start && first.timing.delay == 1;
+        if first.steps.end <= second.steps.start {
+            Bond::Link
+        } else if one_step && second.timing.delay == 1 {
+            Bond::Chain
+        } else {
+            Bond::Broken
+        }
+    }
+}
+
+/// The rows of a plan for the operations of a job.
+#[derive(Default)]
+pub struct Rows {
+    /// Those that can be drawn, by start.
+    pub bars: Vec<Bar>,
+    /// The other operations that have a row, and why it has no place in the grid.
+    pub undrawn: Vec<(usize, String)>,
+    /// Of each instance and lane, where its last bar ends.
+    lanes: [Vec<u32>; INST_CELLS],
+}
+
+impl Rows {
+    pub fn of(job: &Job, plan: &Plan) -> Rows {
+        let mut operations: Vec<usize> = (0..job.n.min(plan.n).into()).collect();
+        operations.sort_by_key(|&operation| plan.starts[operation]);
+        let mut rows = Rows::default();
+        for operation in operations {
+            match lone_bar(job, plan, operation) {
+                Ok(bar) => rows.add(job, bar),
+                Err(why) => rows.undrawn.push((operation, why)),
+            }
+        }
+        rows.undrawn.sort();
+        rows
+    }
+
+    /// Bars come by start, and links lead to higher numbers: what a chain has before this bar is there already.
+    fn add(&mut self, job: &Job, mut bar: Bar) {
+        let before = job
+            .before(bar.operation)
+            .filter_map(|first| self.bar(first));
+        let chained = before.filter(|first| Bond::of(first, &bar) == Bond::Chain);
+        let arrivals = chained.map(|first| first.work.end + u32::from(job.wire));
+        let begin = arrivals.max().unwrap_or(bar.steps.start);
+        bar.work = begin..begin + u32::from(bar.timing.time);
+
+        let lanes = &mut self.lanes[bar.instance];
+        let free = lanes.iter().position(|&end| end <= bar.steps.start);
+        bar.lane = free.unwrap_or(lanes.len());
+        lanes.resize(lanes.len().max(bar.lane + 1), 0);
+        lanes[bar.lane] = bar.steps.end.max(bar.work.end);
+        self.bars.push(bar);
+    }
+
+    pub fn lanes(&self, instance: usize) -> usize {
+        self.lanes[instance].len()
+    }
+
+    pub fn bar(&self, operation: usize) -> Option<&Bar> {
+        self.bars.iter().find(|bar| bar.operation == operation)
+    }
+
+    /// The links that have a bar at both ends.
+    pub fn bonds<'a>(&'a self, job: &'a Job) -> impl Iterator<Item = (Bond, &'a Bar, &'a Bar)> {
+        job.links().filter_map(|(from, to)| {
+            let [first, second] = [self.bar(from)?, self.bar(to)?];
+            Some((Bond::of(first, second), first, second))
+        })
+    }
+}
+
+/// The bar of an operation outside any chain, or why its row has no place in the grid.
+fn lone_bar(job: &Job, plan: &Plan, operation: usize) -> Result<Bar, String> {
+    let kind = job.kinds[operation];
+    let (start, instance) = plan.row(operation);
+    if start == 0 {
+        return Err("start 0".into());
+    }
+    if start > job.t.into() {
+        return Err(format!("start {start}, after the deadline"));
+    }
+    if job.type_of(instance).is_none() {
+        return Err(format!("no instance {instance}"));
+    }
+    let cannot = || format!("instance {instance} cannot do kind {kind}");
+    let timing = job.work_on(instance, operation).ok_or_else(cannot)?;
+    let clock = u32::from(job.clock);
+    let begin = (start as u32 - 1) * clock;
+    Ok(Bar {
+        operation,
+        kind,
+        start,
+        instance,
+        timing,
+        steps: begin..begin + clock * u32::from(timing.delay),
+        busy: begin..begin + clock * u32::from(timing.spacing),
+        work: begin..begin + u32::from(timing.time),
+        lane: 0,
+    })
+}

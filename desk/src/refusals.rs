@@ -1,0 +1,108 @@
+//! What the numbers of refusals mean, in document 01's words.
+
+use crate::library::{Paper, Refusal};
+use std::path::Path;
+
+impl Paper {
+    pub fn name(self) -> &'static str {
+        match self {
+            Paper::Job => "job",
+            Paper::Plan => "plan",
+            Paper::Note => "note",
+            Paper::Dossier => "dossier",
+            Paper::Request => "the request itself",
+        }
+    }
+}
+
+impl Refusal {
+    /// Number, paper and meaning, behind the name of the file where one holds the paper.
+    pub fn told_of(&self, file: Option<&Path>) -> String {
+        let file = file.map_or(String::new(), |file| format!("{}: ", file.display()));
+        let (number, paper, name) = (self.number, self.paper as u32, self.paper.name());
+        let meaning = meaning(number);
+        format!("{file}refused by {number}, paper {paper} ({name}): {meaning}")
+    }
+}
+
+/// When a number is given.
+pub fn meaning(number: u32) -> &'static str {
+    match number {
+        1 => "bits run out",
+        2 => "form differs",
+        3 => "N, E, M, K or clock outside its limit",
+        4 => "link breaks its rule: a < b < N, strictly ascending by a, then b",
+        5 => "type breaks its rule (copies 1 to 7; time 0 and interval 0, or 1 ≤ interval ≤ time ≤ 1,023), or copies so far exceed 16",
+        6 => "fill not zero, or bytes follow",
+        7 => "record to be written: T, wire, a kind or a row's number too wide for its field, or an unused cell not zero",
+        10 => "plan's N or K differs from the job's",
+        11 => "selection order: within a type a selected instance precedes an unselected one",
+        12 => "row: instance not below K",
+        13 => "row: instance not able to do the kind",
+        14 => "row: instance unselected",
+        15 => "row: start below 1, or start + delay − 1 above T",
+        16 => "precedence: for a link (a, b), b's start must be ≥ a's start + a's delay, or both starts equal and both delays 1",
+        17 => "resource: two operations on one instance must have different starts, and the later start must exceed the earlier by at least the spacing of the later operation",
+        18 => "chain: for operations joined by successive links and all started in one step, the times plus one wire for each link must total at most the clock",
+        20 => "slide distance outside −31 to 31",
+        21 => "a moved start leaves its limits",
+        22 => "output too short",
+        30 => "visits exceed the budget",
+        31 => "no plan meets the rules",
+        40 => "note over 60,000 bytes",
+        41 => "verdict 1 without plan, or 0 with one",
+        42 => "split on a number ≥ N or already placed",
+        43 => "bit 0 not allowed: the cost is below the claim, or verdict 0",
+        44 => "all placed and cheaper, or verdict 0",
+        50 => "lengths do not total the dossier",
+        51 => "dossier over 65,536 bytes",
+        _ => "a number that document 01 does not have",
+    }
+}
+
+#[cfg(test)]
+mod tests {
+    use super::*;
+
+    /// The numbers that the header names: lines such as `TOLMUPUNG_BITS_RUN_OUT = 1,`.
+    fn numbers_of_the_header() -> Vec<u32> {
+        let header = include_str!("../../include/tolmupung.h");
+        let after = header.split("The number of a refusal").nth(1).unwrap();
+        let list = after.split('}').next().unwrap();
+        let values = list.lines().filter_map(|line| line.split(" = ").nth(1));
+        let digits = |value: &str| {
+            value
+                .chars()
+                .take_while(char::is_ascii_digit)
+                .collect::<String>()
+        };
+        values.map(|value| digits(value).parse().unwrap()).collect()
+    }
+
+    #[test]
+    fn every_number_of_the_header_and_no_other_has_a_meaning() {
+        let named = numbers_of_the_header();
+        assert_eq!(named.len(), 28);
+        let unknown = meaning(0);
+        for number in 0..100 {
+            assert_eq!(
+                named.contains(&number),
+                meaning(number) != unknown,
+                "{number}"
+            );
+        }
+    }
+
+    #[test]
+    fn a_refusal_names_file_paper_number_and_meaning() {
+        let refusal = Refusal {
+            number: 10,
+            paper: Paper::Plan,
+        };
+        let told = refusal.told_of(Some(Path::new("empty.plan")));
+        assert_eq!(
+            told,
+            "empty.plan: refused by 10, paper 1 (plan): plan's N or K differs from the job's"
+        );
+    }
+}

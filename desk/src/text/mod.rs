@@ -1,0 +1,54 @@
+//! Jobs and plans as text that a person reads and writes. `show` and `make` undo each other: the text of a sheet makes
+//! that sheet again, and a text in the layout of `show` is shown again as it was.
+//!
+//! Each line says one thing, in words and numbers; commas, spaces and what follows a `#` count for nothing.
+
+mod job;
+mod lines;
+mod plan;
+
+use crate::library::{self, Refusal};
+use crate::record::{Job, Plan};
+pub use job::job_text;
+use lines::{Lines, Mistake};
+pub use plan::plan_text;
+
+/// A record that was read from text.
+#[derive(Debug, PartialEq)]
+pub enum Record {
+    Job(Box<Job>),
+    Plan(Box<Plan>),
+}
+
+impl Record {
+    /// The sheet, if the library writes one: a text may say more operations than a job has, say.
+    pub fn sheet(&self) -> Result<Vec<u8>, Refusal> {
+        match self {
+            Record::Job(job) => library::write_job(job),
+            Record::Plan(plan) => library::write_plan(plan),
+        }
+    }
+}
+
+/// The record that a text says.
+pub fn made(text: &str) -> Result<Record, Mistake> {
+    let mut lines = Lines::of(text);
+    let record = match lines.first_word() {
+        Some("job") => Record::Job(Box::new(job::made(&mut lines)?)),
+        Some("plan") => Record::Plan(Box::new(plan::made(&mut lines)?)),
+        _ => return Err(lines.expected("`job` or `plan`")),
+    };
+    lines.end()?;
+    Ok(record)
+}
+
+/// A line of text, with a comment at its right.
+fn commented(line: &str, comment: &str) -> String {
+    format!("{line:<38}# {comment}\n")
+}
+
+/// The comment below a heading that nothing follows.
+const NOTHING: &str = "  # none\n";
+
+#[cfg(test)]
+mod tests;
