@@ -1,6 +1,7 @@
 //! A plan's rows as bars: which can be drawn, when each operation works, and in which lane of its instance.
 
 use crate::record::{Job, Plan, Work, INST_CELLS};
+use std::collections::BTreeMap;
 use std::ops::Range;
 
 /// An operation that has its place in the grid. Spans are in ns from the beginning of step 1.
@@ -16,6 +17,13 @@ pub struct Bar {
     /// In a chain it begins when results have arrived; where the chain is too long it leaves the steps.
     pub work: Range<u32>,
     pub lane: usize,
+}
+
+impl Bar {
+    /// Its instance and lane.
+    fn place(&self) -> (usize, usize) {
+        (self.instance, self.lane)
+    }
 }
 
 /// What a link is between two bars.
@@ -38,6 +46,15 @@ impl Bond {
             Bond::Broken
         }
     }
+
+    /// Its class in the style sheet.
+    pub fn class(self) -> &'static str {
+        match self {
+            Bond::Link => "link",
+            Bond::Chain => "chain",
+            Bond::Broken => "broken",
+        }
+    }
 }
 
 /// The rows of a plan for the operations of a job.
@@ -49,6 +66,20 @@ pub struct Rows {
     pub undrawn: Vec<(usize, String)>,
     /// Of each instance and lane, where its last bar ends.
     lanes: [Vec<u32>; INST_CELLS],
+    /// Links between bars of one lane hang below it, each in a level: of each instance and lane its levels, and where the last
+    /// link of each ends.
+    levels: BTreeMap<(usize, usize), Vec<u32>>,
+    /// The level of each such link.
+    hung: BTreeMap<(usize, usize), usize>,
+}
+
+/// Takes the first place whose last span has ended, or a new one behind them all.
+fn first_free(ends: &mut Vec<u32>, span: Range<u32>) -> usize {
+    let free = ends.iter().position(|&end| end <= span.start);
+    let place = free.unwrap_or(ends.len());
+    ends.resize(ends.len().max(place + 1), 0);
+    ends[place] = span.end;
+    place
 }
 
 impl Rows {
@@ -63,6 +94,7 @@ impl Rows {
             }
         }
         rows.undrawn.sort();
+        rows.hang(job);
         rows
     }
 
@@ -76,12 +108,39 @@ impl Rows {
         let begin = arrivals.max().unwrap_or(bar.steps.start);
         bar.work = begin..begin + u32::from(bar.timing.time);
 
-        let lanes = &mut self.lanes[bar.instance];
-        let free = lanes.iter().position(|&end| end <= bar.steps.start);
-        bar.lane = free.unwrap_or(lanes.len());
-        lanes.resize(lanes.len().max(bar.lane + 1), 0);
-        lanes[bar.lane] = bar.steps.end.max(bar.work.end);
+        let end = bar.steps.end.max(bar.work.end);
+        bar.lane = first_free(&mut self.lanes[bar.instance], bar.steps.start..end);
         self.bars.push(bar);
+    }
+
+    /// Finds a level for each link between bars of one lane.
+    fn hang(&mut self, job: &Job) {
+        let own = self
+            .bonds(job)
+            .filter(|(_, first, second)| first.place() == second.place());
+        let mut hooks: Vec<_> = own
+            .map(|(_, first, second)| {
+                let [begin, end] = [first.work.end, second.work.start];
+                let span = [begin.min(end), begin.max(end)];
+                (span, (first.operation, second.operation), first.place())
+            })
+            .collect();
+        hooks.sort();
+        for ([begin, end], link, place) in hooks {
+            let levels = self.levels.entry(place).or_default();
+            self.hung.insert(link, first_free(levels, begin..end));
+        }
+    }
+
+    /// The level in which a link hangs below its lane; none where it joins two lanes.
+    pub fn level(&self, first: &Bar, second: &Bar) -> Option<usize> {
+        let link = (first.operation, second.operation);
+        self.hung.get(&link).copied()
+    }
+
+    /// How many levels hang below a lane.
+    pub fn levels(&self, instance: usize, lane: usize) -> usize {
+        self.levels.get(&(instance, lane)).map_or(0, Vec::len)
     }
 
     pub fn lanes(&self, instance: usize) -> usize {

@@ -2,7 +2,8 @@
 
 use super::bars::{Bond, Rows};
 use super::layout::{Frame, SMALL, TYPE_COLUMN};
-use super::marks::{draw_course, outline};
+use super::marks::{draw_courses, outline, Course};
+use super::style::HEAD;
 use super::svg::Sheet;
 use crate::record::{Job, Plan, KINDS};
 use Sample::{Area, Arrow, Kind, Torn};
@@ -36,8 +37,17 @@ impl Sample {
             Kind(kind) => sheet.rect(&format!("work k{kind}"), [x, top, SWATCH, SWATCH]),
             Area(class) => sheet.rect(class, [x, top, SAMPLE, SWATCH]),
             Torn => sheet.path("bar plain", &outline([x, top, SAMPLE - GAP, SWATCH], true)),
-            Arrow(bond) => draw_course(sheet, *bond, &format!("M{x:.1} {:.1}h23", base - 4.0)),
+            Arrow(bond) => draw_courses(sheet, &[(*bond, arrow(x, base - 4.0))]),
         }
+    }
+}
+
+/// A straight arrow as wide as a sample.
+fn arrow(x: f64, y: f64) -> Course {
+    let end = x + SAMPLE - HEAD;
+    Course {
+        line: format!("M{x:.1} {y:.1}H{end:.1}"),
+        tip: format!("M{end:.1} {y:.1}h.1"),
     }
 }
 

@@ -31,6 +31,8 @@ pub const WORK_HIGH: f64 = 7.0;
 pub const BUSY_TOP: f64 = 28.0;
 pub const BUSY_HIGH: f64 = 4.0;
 const LANE_HIGH: f64 = 46.0;
+/// A level of links below a lane.
+pub const LEVEL_HIGH: f64 = 6.0;
 
 /// Above and below a type's label.
 pub const LABEL_PAD: f64 = 8.0;
@@ -39,7 +41,8 @@ pub const LABEL_PAD: f64 = 8.0;
 pub struct Band {
     pub top: f64,
     pub high: f64,
-    first_lane: f64,
+    /// The top of each lane.
+    lanes: Vec<f64>,
 }
 
 /// The grid: steps across, instances down.
@@ -86,7 +89,7 @@ impl Frame {
 
     /// Where a type's label is higher than the lanes, its instances share what is left.
     fn add_type(&mut self, job: &Job, rows: &Rows, unit: usize) {
-        let lanes_high = |instance| LANE_HIGH * rows.lanes(instance).max(1) as f64;
+        let lanes_high = |instance| lane_heights(rows, instance).iter().sum::<f64>();
         let instances = job.instances_of(unit);
         let label = 2.0 * LABEL_PAD + STRONG.leading() + abilities(job, unit).high();
         let spare = label - instances.clone().map(lanes_high).sum::<f64>();
@@ -94,12 +97,8 @@ impl Frame {
         self.type_tops.push(self.bottom);
         for instance in instances {
             let [top, high] = [self.bottom, lanes_high(instance) + share];
-            let first_lane = top + share / 2.0;
-            self.instances.push(Band {
-                top,
-                high,
-                first_lane,
-            });
+            let lanes = lane_tops(rows, instance, top + share / 2.0);
+            self.instances.push(Band { top, high, lanes });
             self.bottom += high;
         }
     }
@@ -125,7 +124,25 @@ impl Frame {
     }
 
     pub fn bar_top(&self, bar: &Bar) -> f64 {
-        let lanes_above = LANE_HIGH * bar.lane as f64;
-        self.instances[bar.instance].first_lane + lanes_above + (LANE_HIGH - BAR_HIGH) / 2.0
+        self.instances[bar.instance].lanes[bar.lane] + (LANE_HIGH - BAR_HIGH) / 2.0
     }
+}
+
+/// The heights of an instance's lanes; an idle one has a lane too.
+fn lane_heights(rows: &Rows, instance: usize) -> Vec<f64> {
+    let lanes = 0..rows.lanes(instance).max(1);
+    lanes
+        .map(|lane| LANE_HIGH + LEVEL_HIGH * rows.levels(instance, lane) as f64)
+        .collect()
+}
+
+/// The tops of an instance's lanes, the first of which stands here.
+fn lane_tops(rows: &Rows, instance: usize, mut top: f64) -> Vec<f64> {
+    let heights = lane_heights(rows, instance).into_iter();
+    heights
+        .map(|high| {
+            top += high;
+            top - high
+        })
+        .collect()
 }

@@ -1,7 +1,7 @@
 //! What is drawn in the grid: bars, the links between them, and the bars' tags.
 
 use super::bars::{Bar, Bond, Rows};
-use super::layout::{Frame, BAR_HIGH, BUSY_HIGH, BUSY_TOP, TOOTH, WORK_HIGH, WORK_TOP};
+use super::layout::{Frame, BAR_HIGH, BUSY_HIGH, BUSY_TOP, LEVEL_HIGH, TOOTH, WORK_HIGH, WORK_TOP};
 use super::style::HEAD;
 use super::svg::{Face, Sheet};
 use crate::record::Job;
@@ -14,9 +14,9 @@ const WORK_LEAST: f64 = 1.5;
 /// How far the curve of a link reaches out of its ends.
 const REACH_LEAST: f64 = 12.0;
 const REACH_MOST: f64 = 90.0;
-/// A link within one lane hangs below the bars: so deep, and so far inside its ends.
-const HOOK_DEEP: f64 = 24.0;
+/// A link within one lane hangs below the bars: so far inside its ends, and rounded at its corners.
 const HOOK_INSIDE: f64 = 6.0;
+const HOOK_ROUND: f64 = 4.0;
 
 const NUMBER: Face = Face("strong over", 11.5);
 const DIGIT_WIDE: f64 = 8.1;
@@ -63,41 +63,70 @@ pub fn outline([x, y, wide, high]: [f64; 4], torn: bool) -> String {
     format!("M{x:.1} {y:.1}H{right:.1}{teeth}V{bottom:.1}H{x:.1}Z")
 }
 
-/// Calm links first, so that chains and broken links stand above them.
+/// Where a link is drawn: its line, and a last stretch that carries the arrow's head.
+pub struct Course {
+    pub line: String,
+    pub tip: String,
+}
+
+/// Calm links first, so that chains and broken links stand above them; and heads last, so that no line hides them.
 pub fn draw_links(sheet: &mut Sheet, job: &Job, frame: &Frame, rows: &Rows) {
     let mut bonds: Vec<_> = rows.bonds(job).collect();
     bonds.sort_by_key(|&(bond, _, _)| bond);
-    for (bond, first, second) in bonds {
-        draw_course(sheet, bond, &course(frame, first, second));
+    let courses = bonds.into_iter().map(|(bond, first, second)| {
+        let course = match rows.level(first, second) {
+            Some(level) => hook(frame, first, second, level),
+            None => curve(frame, first, second),
+        };
+        (bond, course)
+    });
+    draw_courses(sheet, &courses.collect::<Vec<_>>());
+}
+
+pub fn draw_courses(sheet: &mut Sheet, courses: &[(Bond, Course)]) {
+    for (bond, course) in courses {
+        sheet.path("halo", &course.line);
+        sheet.path(bond.class(), &course.line);
+    }
+    for (bond, course) in courses {
+        sheet.path(&format!("{}-tip", bond.class()), &course.tip);
     }
 }
 
-pub fn draw_course(sheet: &mut Sheet, bond: Bond, course: &str) {
-    let class = match bond {
-        Bond::Link => "link",
-        Bond::Chain => "chain",
-        Bond::Broken => "broken",
-    };
-    sheet.path("halo", course);
-    sheet.path(class, course);
+/// The y at which a bar's work is done.
+fn middle(frame: &Frame, bar: &Bar) -> f64 {
+    frame.bar_top(bar) + WORK_TOP + WORK_HIGH / 2.0
 }
 
 /// From the end of the first's work to where the arrow's head begins, before the second's.
-fn course(frame: &Frame, first: &Bar, second: &Bar) -> String {
-    let middle = |bar| frame.bar_top(bar) + WORK_TOP + WORK_HIGH / 2.0;
-    let [x1, y1] = [frame.x(first.work.end), middle(first)];
-    let [x2, y2] = [frame.x(second.work.start), middle(second)];
-    if (first.instance, first.lane) == (second.instance, second.lane) {
-        let [x1, x2] = [x1 - HOOK_INSIDE, x2 + HOOK_INSIDE];
-        let [y, deep] = [y1 + WORK_HIGH / 2.0, y1 + HOOK_DEEP];
-        let end = y + HEAD;
-        return format!("M{x1:.1} {y:.1}C{x1:.1} {deep:.1} {x2:.1} {deep:.1} {x2:.1} {end:.1}");
-    }
+fn curve(frame: &Frame, first: &Bar, second: &Bar) -> Course {
+    let [x1, y1] = [frame.x(first.work.end), middle(frame, first)];
+    let [x2, y2] = [frame.x(second.work.start), middle(frame, second)];
     let end = x2 - HEAD;
     let least = ((y2 - y1).abs() / 4.0).clamp(REACH_LEAST, 2.0 * REACH_LEAST);
     let reach = ((end - x1).abs() / 2.0).clamp(least, REACH_MOST);
     let [out, back] = [x1 + reach, end - reach];
-    format!("M{x1:.1} {y1:.1}C{out:.1} {y1:.1} {back:.1} {y2:.1} {end:.1} {y2:.1}")
+    Course {
+        line: format!("M{x1:.1} {y1:.1}C{out:.1} {y1:.1} {back:.1} {y2:.1} {end:.1} {y2:.1}"),
+        tip: format!("M{end:.1} {y2:.1}h.1"),
+    }
+}
+
+/// Down from the first's work, along its level below the lane, and up to the second's.
+fn hook(frame: &Frame, first: &Bar, second: &Bar, level: usize) -> Course {
+    let x1 = frame.x(first.work.end) - HOOK_INSIDE;
+    let x2 = frame.x(second.work.start) + HOOK_INSIDE;
+    let y = middle(frame, first) + WORK_HIGH / 2.0;
+    let deep = frame.bar_top(first) + BAR_HIGH + LEVEL_HIGH * (level + 1) as f64;
+    let round = HOOK_ROUND.min((x2 - x1).abs() / 2.0).copysign(x2 - x1);
+    let [out, back] = [x1 + round, x2 - round];
+    let [above, end] = [deep - HOOK_ROUND, y + HEAD];
+    let line = format!(
+        "M{x1:.1} {y:.1}V{above:.1}Q{x1:.1} {deep:.1} {out:.1} {deep:.1}\
+         H{back:.1}Q{x2:.1} {deep:.1} {x2:.1} {above:.1}V{end:.1}"
+    );
+    let tip = format!("M{x2:.1} {end:.1}v-.1");
+    Course { line, tip }
 }
 
 /// The number and the kind of each bar. They are drawn last, so that no link hides them.

@@ -37,11 +37,14 @@ text{font-family:sans-serif;fill:#222}
 .busy{fill:url(#hatch);stroke:#555;stroke-width:.6}
 .excess{fill:#D0021B}
 .tag{fill:#fff;fill-opacity:.88}
-.tag,.halo,.link,.chain,.broken,.over{pointer-events:none}
+.tag,.halo,.link,.chain,.broken,.link-tip,.chain-tip,.broken-tip,.over{pointer-events:none}
 .halo{fill:none;stroke:#fff;stroke-opacity:.85;stroke-width:4.5}
-.link{fill:none;stroke:#52616F;stroke-width:1.1;marker-end:url(#link-head)}
-.chain{fill:none;stroke:#6A1B9A;stroke-width:2.2;marker-end:url(#chain-head)}
-.broken{fill:none;stroke:#D0021B;stroke-width:1.6;stroke-dasharray:5 3;marker-end:url(#broken-head)}
+.link{fill:none;stroke:#52616F;stroke-width:1.1}
+.link-tip{marker-end:url(#link-head)}
+.chain{fill:none;stroke:#6A1B9A;stroke-width:2.2}
+.chain-tip{marker-end:url(#chain-head)}
+.broken{fill:none;stroke:#D0021B;stroke-width:1.6;stroke-dasharray:5 3}
+.broken-tip{marker-end:url(#broken-head)}
 ";
 
 const HATCH: &str = "\

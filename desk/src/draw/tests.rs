@@ -64,6 +64,24 @@ fn bars_of_one_lane_never_overlap() {
     }
 }
 
+/// Three multiplications one after another on one instance, the first two and the second two linked, and the outer ones.
+#[test]
+fn links_below_a_lane_hang_in_levels() {
+    let (mut job, mut plan) = chained();
+    [job.e, job.t, job.kinds[2]] = [3, 3, 1];
+    job.from[..3].copy_from_slice(&[0, 0, 1]);
+    job.to[..3].copy_from_slice(&[1, 2, 2]);
+    plan.starts[..3].copy_from_slice(&[1, 2, 3]);
+    plan.insts[..3].fill(2);
+    let rows = Rows::of(&job, &plan);
+    let level = |from, to| rows.level(rows.bar(from)?, rows.bar(to)?);
+    assert_eq!(
+        [level(0, 1), level(0, 2), level(1, 2)],
+        [Some(0), Some(1), Some(0)]
+    );
+    assert_eq!(rows.levels(2, 0), 2);
+}
+
 #[test]
 fn every_operation_is_drawn_or_listed() {
     let (job, mut plan) = chained();
