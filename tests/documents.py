@@ -1,8 +1,8 @@
 """The documents, held to what they say.
 
 In an indented block a line `$ COMMAND` is run, and what follows it up to the next command must be just what it says on either
-output. A row of a table whose last cell is one file below crates/ names theorems in the cell before it, and they must stand in
-that file. A link to a file must lead to one.
+output. A row of a table whose last cell names files below crates/ names theorems in the cell before it, and each must stand in
+one of these files. A link to a file must lead to one.
 
 Usage: tests/documents.py DOCUMENT.. from the root. The commands of a document run in turn, in a folder of their own that has
 the examples, the header, the library and the program.
@@ -48,11 +48,29 @@ def broken_commands(text):
                 yield f"{command}\nsays\n{found}\nand not\n{wanted}"
 
 
+def quoted(cell):
+    return re.findall(r"`([^`]*)`", cell)
+
+
+def files_of(cell, before):
+    """The files that a cell names: below crates/, beside the one named before, or the same as in the row before."""
+    files = list(before) if "the same" in cell else []
+    for name in quoted(cell):
+        if name.endswith(".antt") and "/" in name:
+            files.append(os.path.join("crates", name.removeprefix("crates/")))
+        elif name.endswith(".antt"):
+            files.append(os.path.join(os.path.dirname((files or before)[-1]), name))
+    return files
+
+
 def theorems(text):
-    """The theorems that a document names, each with its file."""
-    for row in re.findall(r"^\|.*\| *(`[^|]*`) *\| *`(crates/[^`|]*\.antt)` *\|$", text, re.MULTILINE):
-        for name in re.findall(r"`([^`]*)`", row[0]):
-            yield name, row[1]
+    """The theorems that a document's tables name, each with the files of its row."""
+    files = []
+    for row in re.findall(r"^\|[^|]*\|([^|]*)\|([^|]*)\|$", text, re.MULTILINE):
+        files = files_of(row[1], files)
+        for name in quoted(row[0]):
+            if files and re.fullmatch(r"[a-z]+|\w+(-\w+)+", name):
+                yield name, files
 
 
 def stands(name, file):
@@ -60,9 +78,10 @@ def stands(name, file):
 
 
 def broken_theorems(text):
-    for name, file in theorems(text):
-        if not os.path.exists(file) or not stands(name, file):
-            yield f"{name} does not stand in {file}"
+    for name, files in theorems(text):
+        lacking = [file for file in files if not os.path.exists(file)]
+        if lacking or not any(stands(name, file) for file in files):
+            yield f"{name} does not stand in {' or '.join(lacking or files)}"
 
 
 def links(text):
