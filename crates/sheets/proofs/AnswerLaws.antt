@@ -14,6 +14,11 @@ use Rattle.sheets.specs.Answers.{ifRoom, written, output}
 use Rattle.sheets.specs.declared.Written.{Written}
 use Rattle.sheets.specs.declared.Written.the-variants.{Wrote, Refused}
 
+-- a refusal leaves the output's bytes as they were, of the writers and of all that leave `output`
+pub untouched : (answer : Written) (sheet out : List ℕ) (number paper : ℕ) → answer ≡ Refused number paper → output answer sheet out ≡ out
+unfolding output
+untouched answer sheet out number paper e = rw e
+
 -- the record's fault, its paper, the sheet and its size, and the output
 module _ (fault paper size : ℕ) (sheet out : List ℕ) where
   -- ---- a writer's three ways
