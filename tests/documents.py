@@ -1,8 +1,8 @@
 """The documents, held to what they say.
 
 In an indented block a line `$ COMMAND` is run, and what follows it up to the next command must be just what it says on either
-output. A row of a table whose last cell names files below crates/ names theorems in the cell before it, and each must stand in
-one of these files. A link to a file must lead to one.
+output. In a table of what is proved, `| what | theorem | file |`, each theorem must stand in a file of its row. A link to a
+file must lead to one.
 
 Usage: tests/documents.py DOCUMENT.. from the root. The commands of a document run in turn, in a folder of their own that has
 the examples, the header, the library and the program.
@@ -56,25 +56,27 @@ def files_of(cell, before):
     """The files that a cell names: below crates/, beside the one named before, or the same as in the row before."""
     files = list(before) if "the same" in cell else []
     for name in quoted(cell):
-        if name.endswith(".antt") and "/" in name:
-            files.append(os.path.join("crates", name.removeprefix("crates/")))
-        elif name.endswith(".antt"):
+        if name.endswith(".antt") and "/" not in name and (files or before):
             files.append(os.path.join(os.path.dirname((files or before)[-1]), name))
+        elif name.endswith(".antt"):
+            files.append(os.path.join("crates", name.removeprefix("crates/")))
     return files
 
 
 def theorems(text):
-    """The theorems that a document's tables name, each with the files of its row."""
-    files = []
-    for row in re.findall(r"^\|[^|]*\|([^|]*)\|([^|]*)\|$", text, re.MULTILINE):
-        files = files_of(row[1], files)
-        for name in quoted(row[0]):
-            if files and re.fullmatch(r"[a-z]+|\w+(-\w+)+", name):
-                yield name, files
+    """The theorems that a document's tables of what is proved name, each with the files of its row."""
+    for table in re.findall(r"^\| what \| theorem \| file[^|]*\|\n((?:\|.*\|\n)*)", text, re.MULTILINE):
+        files = []
+        for row in table.splitlines():
+            _, _, names, cell, _ = row.split("|")
+            files = files_of(cell, files)
+            for name in quoted(names):
+                if re.fullmatch(r"[a-z]+|\w+(-\w+)+", name):
+                    yield name, files
 
 
 def stands(name, file):
-    return re.search(rf"^ *(pub )?{re.escape(name)} ", open(file, encoding="utf-8").read(), re.MULTILINE)
+    return re.search(rf"^ *(pub )?{re.escape(name)} :", open(file, encoding="utf-8").read(), re.MULTILINE)
 
 
 def broken_theorems(text):

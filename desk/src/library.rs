@@ -7,12 +7,14 @@ use std::mem::{offset_of, size_of};
 /// The most bytes that a sheet of each form has.
 const JOB_BYTES: usize = 274;
 const PLAN_BYTES: usize = 31;
-const NOTE_BYTES: usize = 60_000;
+pub const NOTE_BYTES: usize = 60_000;
 pub const DOSSIER_BYTES: usize = 65_536;
 
 const REFUSED: u32 = 0;
+const FOUND: u32 = 2;
 const NONE: u32 = 3;
 const SPENT: u32 = 4;
+const CHEAPEST: u32 = 5;
 
 /// tolmupung_answer.
 #[repr(C)]
@@ -118,6 +120,11 @@ pub enum Checked {
     None,
 }
 
+/// An outcome that an entry is proved not to give.
+fn never(outcome: u32) -> ! {
+    unreachable!("outcome {outcome}, which the library is proved not to give here")
+}
+
 impl Answer {
     /// The answer itself, unless it is a refusal.
     fn accepted(self) -> Result<Answer, Refusal> {
@@ -129,7 +136,8 @@ impl Answer {
             1 => Paper::Plan,
             2 => Paper::Note,
             3 => Paper::Dossier,
-            _ => Paper::Request,
+            4 => Paper::Request,
+            other => unreachable!("paper {other}, which the library is proved not to name"),
         };
         Err(Refusal {
             number: self.number,
@@ -188,25 +196,31 @@ pub fn search(job: &[u8], budget: u32) -> Result<Searched, Refusal> {
     Ok(match outcome {
         NONE => Searched::None { visits },
         SPENT => Searched::Spent { visits },
-        _ => {
+        FOUND => {
             plan.truncate(length as usize);
             Searched::Found { cost, visits, plan }
         }
+        other => never(other),
+    })
+}
+
+/// An entry that takes a job and a plan, and writes.
+type Writer = unsafe extern "C" fn(*const u8, usize, *const u8, usize, *mut u8, usize) -> Answer;
+
+fn written_for(writer: Writer, room: usize, job: &[u8], plan: &[u8]) -> Result<Vec<u8>, Refusal> {
+    let (plan, plan_len) = (plan.as_ptr(), plan.len());
+    written(room, |out, room| unsafe {
+        writer(job.as_ptr(), job.len(), plan, plan_len, out, room)
     })
 }
 
 /// The house note for a plan, or for none where the plan has no bytes.
 pub fn write_note(job: &[u8], plan: &[u8]) -> Result<Vec<u8>, Refusal> {
-    written(NOTE_BYTES, |out, room| unsafe {
-        tolmupung_write_note(
-            job.as_ptr(),
-            job.len(),
-            plan.as_ptr(),
-            plan.len(),
-            out,
-            room,
-        )
-    })
+    written_for(tolmupung_write_note, NOTE_BYTES, job, plan)
+}
+
+pub fn tidy(job: &[u8], plan: &[u8]) -> Result<Vec<u8>, Refusal> {
+    written_for(tolmupung_tidy, PLAN_BYTES, job, plan)
 }
 
 pub fn slide(job: &[u8], plan: &[u8], distance: i32) -> Result<Vec<u8>, Refusal> {
@@ -216,24 +230,68 @@ pub fn slide(job: &[u8], plan: &[u8], distance: i32) -> Result<Vec<u8>, Refusal>
     })
 }
 
-pub fn tidy(job: &[u8], plan: &[u8]) -> Result<Vec<u8>, Refusal> {
-    written(PLAN_BYTES, |out, room| unsafe {
-        tolmupung_tidy(
-            job.as_ptr(),
-            job.len(),
-            plan.as_ptr(),
-            plan.len(),
-            out,
-            room,
-        )
-    })
-}
-
 pub fn check_dossier(dossier: &[u8]) -> Result<Checked, Refusal> {
     let answer = unsafe { tolmupung_check_dossier(dossier.as_ptr(), dossier.len()) };
     let Answer { outcome, cost, .. } = answer.accepted()?;
     Ok(match outcome {
         NONE => Checked::None,
-        _ => Checked::Cheapest { cost },
+        CHEAPEST => Checked::Cheapest { cost },
+        other => never(other),
     })
+}
+
+#[cfg(test)]
+mod tests {
+    use super::*;
+
+    /// The value that the header gives a name.
+    fn of_the_header(name: &str) -> usize {
+        let header = include_str!("../../include/tolmupung.h");
+        let value = header
+            .split(&format!("TOLMUPUNG_{name} = "))
+            .nth(1)
+            .unwrap();
+        value
+            .split(|c: char| !c.is_ascii_digit())
+            .next()
+            .unwrap()
+            .parse()
+            .unwrap()
+    }
+
+    #[test]
+    fn numbers_are_those_of_the_header() {
+        let bytes = [
+            ("JOB", JOB_BYTES),
+            ("PLAN", PLAN_BYTES),
+            ("NOTE", NOTE_BYTES),
+            ("DOSSIER", DOSSIER_BYTES),
+        ];
+        for (form, most) in bytes {
+            assert_eq!(of_the_header(&format!("{form}_BYTES")), most);
+        }
+        let outcomes = [
+            ("REFUSED", REFUSED),
+            ("FOUND", FOUND),
+            ("NONE", NONE),
+            ("SPENT", SPENT),
+            ("CHEAPEST", CHEAPEST),
+        ];
+        for (name, outcome) in outcomes {
+            assert_eq!(of_the_header(name), outcome as usize);
+        }
+        let papers = [
+            Paper::Job,
+            Paper::Plan,
+            Paper::Note,
+            Paper::Dossier,
+            Paper::Request,
+        ];
+        for (name, paper) in ["JOB", "PLAN", "NOTE", "DOSSIER", "REQUEST"]
+            .iter()
+            .zip(papers)
+        {
+            assert_eq!(of_the_header(&format!("PAPER_{name}")), paper as usize);
+        }
+    }
 }

@@ -19,6 +19,7 @@ use progress::tell;
 use std::env;
 use std::ffi::OsString;
 use std::io::{self, Write};
+use std::path::Path;
 use std::process::ExitCode;
 use trouble::{Status, Trouble};
 
@@ -57,7 +58,7 @@ fn known(name: &OsString) -> Result<&'static Command, Trouble> {
     let unknown = || {
         Trouble::failed(format!(
             "no command is called {}; ./tolmupung --help lists them",
-            name.display()
+            files::named(Path::new(name))
         ))
     };
     COMMANDS

@@ -1,8 +1,8 @@
 //! A closing note in words: its marks one after another, or, where its job is at hand and the library has accepted it, its
 //! tree place by place.
 
-use crate::library::{self, Refusal};
-use crate::record::{Job, Plan};
+use crate::library::{self, Paper, Refusal, NOTE_BYTES};
+use crate::record::{Job, Plan, OP_CELLS};
 
 const HEADER_BITS: usize = 5;
 const OPERATION_BITS: usize = 5;
@@ -81,21 +81,39 @@ fn verdict_text(note: &[u8]) -> String {
 }
 
 /// A note by itself. Where its tree ends only the job tells, so the zero bits at its end are left as they are.
-pub fn note_text(note: &[u8]) -> String {
+pub fn note_text(note: &[u8]) -> Result<String, Refusal> {
+    if let Some(number) = header_fault(note) {
+        let paper = Paper::Note;
+        return Err(Refusal { number, paper });
+    }
     let mut text = verdict_text(note);
     let mut marks = Marks::of(note);
     for _ in 0..TOLD {
         if marks.only_zeros_left() {
-            let left = 8 * note.len() - marks.at.min(8 * note.len());
-            return text
-                + &format!("  {left} zero bits: marks that close, or fill; its job tells\n");
+            let left = 8 * note.len() - marks.at;
+            return Ok(
+                text + &format!("  {left} zero bits: marks that close, or fill; its job tells\n")
+            );
         }
-        let Some(mark) = marks.next() else {
-            return text + "  a split, and its number runs out of bits\n";
+        text += &match marks.next() {
+            None => return Ok(text + "  a split, whose number runs out of bits\n"),
+            Some(Mark::Split(operation)) if operation >= OP_CELLS => {
+                return Ok(text + &format!("  split on {operation}, which no job has\n"));
+            }
+            Some(mark) => format!("  {}\n", mark_text(mark)),
         };
-        text += &format!("  {}\n", mark_text(mark));
     }
-    text + "  and so on\n"
+    Ok(text + "  and so on\n")
+}
+
+/// What is wrong with a note before its tree, whatever its job.
+fn header_fault(note: &[u8]) -> Option<u32> {
+    match Paper::of_form(note) {
+        _ if note.len() > NOTE_BYTES => Some(Refusal::NOTE_LONG),
+        _ if note.is_empty() => Some(Refusal::BITS_RUN_OUT),
+        Some(Paper::Note) => None,
+        _ => Some(Refusal::FORM_DIFFERS),
+    }
 }
 
 /// An accepted note beside its job: the tree, a line for each place.

@@ -8,12 +8,12 @@ use std::time::{Duration, Instant};
 /// The time between two lines of progress.
 const PAUSE: Duration = Duration::from_secs(2);
 
-/// A line on standard error.
+/// A line on standard error, in one piece, so that lines of several processes do not mix.
 pub fn tell(line: &str) {
-    let _ = writeln!(io::stderr(), "{line}");
+    let _ = io::stderr().write_all(format!("{line}\n").as_bytes());
 }
 
-/// Progress over files, of which some are refused or cannot be read.
+/// How many of some files have been checked.
 pub struct Progress {
     done: usize,
     all: usize,
@@ -38,16 +38,17 @@ impl Progress {
     }
 }
 
-/// Does some work, and tells from time to time how long it has taken.
+/// Does some work, and tells from time to time how long it has taken. Where no thread can be had for that, nothing is told.
 pub fn timed<T: Send>(what: &str, work: impl FnOnce() -> T + Send) -> T {
     thread::scope(|scope| {
         let (finished, wait) = mpsc::channel::<()>();
-        scope.spawn(move || {
-            let began = Instant::now();
+        let began = Instant::now();
+        let telling = move || {
             while wait.recv_timeout(PAUSE) == Err(RecvTimeoutError::Timeout) {
                 tell(&format!("{what}, {} s so far", began.elapsed().as_secs()));
             }
-        });
+        };
+        let _ = thread::Builder::new().spawn_scoped(scope, telling);
         let done = work();
         drop(finished);
         done

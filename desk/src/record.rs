@@ -42,9 +42,9 @@ pub struct Plan {
 
 const _: () = assert!(size_of::<Job>() == 604 && size_of::<Plan>() == 132);
 
-/// What a type makes of a kind that it can do: the time in ns, and delay and spacing in steps.
+/// What a kind takes on a type that can do it: time and interval in ns, delay and spacing in steps.
 #[derive(Clone, Copy, Debug, PartialEq, Eq)]
-pub struct Work {
+pub struct Timing {
     pub time: u16,
     pub interval: u16,
     pub delay: u16,
@@ -104,11 +104,11 @@ impl Job {
         types.find(|&unit| self.instances_of(unit).contains(&instance))
     }
 
-    /// What a type makes of a kind; none where it cannot do it.
-    pub fn work(&self, unit: usize, kind: usize) -> Option<Work> {
+    /// What a kind takes on a type; none where that cannot do it.
+    pub fn timing(&self, unit: usize, kind: usize) -> Option<Timing> {
         let cell = KINDS * unit + kind;
         let [time, interval] = [self.times[cell], self.intervals[cell]];
-        (time > 0).then(|| Work {
+        (time > 0).then(|| Timing {
             time,
             interval,
             delay: time.div_ceil(self.clock),
@@ -116,9 +116,9 @@ impl Job {
         })
     }
 
-    /// What an instance makes of an operation; none where it cannot do it.
-    pub fn work_on(&self, instance: usize, operation: usize) -> Option<Work> {
-        self.work(self.type_of(instance)?, self.kinds[operation].into())
+    /// What an operation takes on an instance; none where that cannot do it.
+    pub fn timing_on(&self, instance: usize, operation: usize) -> Option<Timing> {
+        self.timing(self.type_of(instance)?, self.kinds[operation].into())
     }
 }
 

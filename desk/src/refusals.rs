@@ -1,7 +1,7 @@
 //! What the numbers of refusals mean, in document 01's words.
 
+use crate::files::{named, Filed};
 use crate::library::{Paper, Refusal};
-use std::path::Path;
 
 impl Paper {
     pub fn name(self) -> &'static str {
@@ -13,15 +13,47 @@ impl Paper {
             Paper::Request => "the request itself",
         }
     }
+
+    /// The paper whose form some bytes begin with.
+    pub fn of_form(bytes: &[u8]) -> Option<Paper> {
+        match bytes.first()? >> 4 {
+            1 => Some(Paper::Job),
+            2 => Some(Paper::Plan),
+            3 => Some(Paper::Note),
+            4 => Some(Paper::Dossier),
+            _ => None,
+        }
+    }
 }
 
 impl Refusal {
-    /// Number, paper and meaning, behind the name of the file where one holds the paper.
-    pub fn told_of(&self, file: Option<&Path>) -> String {
-        let file = file.map_or(String::new(), |file| format!("{}: ", file.display()));
+    pub const BITS_RUN_OUT: u32 = 1;
+    pub const FORM_DIFFERS: u32 = 2;
+    pub const COUNTS_DIFFER: u32 = 10;
+    pub const OUTPUT_SHORT: u32 = 22;
+    pub const BUDGET_SPENT: u32 = 30;
+    pub const NO_PLAN: u32 = 31;
+    pub const NOTE_LONG: u32 = 40;
+    pub const CHEAPER: u32 = 44;
+
+    /// Number, paper and meaning.
+    pub fn told(&self) -> String {
         let (number, paper, name) = (self.number, self.paper as u32, self.paper.name());
-        let meaning = meaning(number);
-        format!("{file}refused by {number}, paper {paper} ({name}): {meaning}")
+        format!(
+            "refused by {number}, paper {paper} ({name}): {}",
+            meaning(number)
+        )
+    }
+
+    /// The same of a paper in a file: the file's name before it, and which form it has where another was wanted.
+    pub fn told_of(&self, filed: &Filed) -> String {
+        let other = match (self.number, Paper::of_form(&filed.bytes)) {
+            (Refusal::FORM_DIFFERS, Some(form)) if form != self.paper => {
+                format!("; it begins as a {} does", form.name())
+            }
+            _ => String::new(),
+        };
+        format!("{}: {}{other}", named(&filed.name), self.told())
     }
 }
 
@@ -30,21 +62,21 @@ pub fn meaning(number: u32) -> &'static str {
     match number {
         1 => "bits run out",
         2 => "form differs",
-        3 => "N, E, M, K or clock outside its limit",
+        3 => "N (0 to 24), E (0 to 64), M (0 to 8), K (0 to 16) or clock (1 to 1,023) outside its limit",
         4 => "link breaks its rule: a < b < N, strictly ascending by a, then b",
         5 => "type breaks its rule (copies 1 to 7; time 0 and interval 0, or 1 ≤ interval ≤ time ≤ 1,023), or copies so far exceed 16",
         6 => "fill not zero, or bytes follow",
-        7 => "record to be written: T, wire, a kind or a row's number too wide for its field, or an unused cell not zero",
+        7 => "record to be written: T, wire, a kind, a selection bit or a row's number too wide for its field, or an unused cell not zero",
         10 => "plan's N or K differs from the job's",
         11 => "selection order: within a type a selected instance precedes an unselected one",
         12 => "row: instance not below K",
         13 => "row: instance not able to do the kind",
         14 => "row: instance unselected",
-        15 => "row: start below 1, or start + delay − 1 above T",
+        15 => "row: start below 1, or start + delay - 1 above T",
         16 => "precedence: for a link (a, b), b's start must be ≥ a's start + a's delay, or both starts equal and both delays 1",
         17 => "resource: two operations on one instance must have different starts, and the later start must exceed the earlier by at least the spacing of the later operation",
         18 => "chain: for operations joined by successive links and all started in one step, the times plus one wire for each link must total at most the clock",
-        20 => "slide distance outside −31 to 31",
+        20 => "slide distance outside -31 to 31",
         21 => "a moved start leaves its limits",
         22 => "output too short",
         30 => "visits exceed the budget",
@@ -70,13 +102,16 @@ mod tests {
         let after = header.split("The number of a refusal").nth(1).unwrap();
         let list = after.split('}').next().unwrap();
         let values = list.lines().filter_map(|line| line.split(" = ").nth(1));
-        let digits = |value: &str| {
-            value
-                .chars()
-                .take_while(char::is_ascii_digit)
-                .collect::<String>()
-        };
-        values.map(|value| digits(value).parse().unwrap()).collect()
+        values
+            .map(|value| {
+                value
+                    .split(|c: char| !c.is_ascii_digit())
+                    .next()
+                    .unwrap()
+                    .parse()
+                    .unwrap()
+            })
+            .collect()
     }
 
     #[test]
@@ -96,13 +131,15 @@ mod tests {
     #[test]
     fn a_refusal_names_file_paper_number_and_meaning() {
         let refusal = Refusal {
-            number: 10,
-            paper: Paper::Plan,
+            number: 2,
+            paper: Paper::Job,
         };
-        let told = refusal.told_of(Some(Path::new("empty.plan")));
-        assert_eq!(
-            told,
-            "empty.plan: refused by 10, paper 1 (plan): plan's N or K differs from the job's"
-        );
+        let filed = Filed {
+            name: "case1.plan".into(),
+            bytes: vec![0x21, 0x8d],
+        };
+        let told =
+            "case1.plan: refused by 2, paper 0 (job): form differs; it begins as a plan does";
+        assert_eq!(refusal.told_of(&filed), told);
     }
 }

@@ -1,8 +1,7 @@
 //! How a command ends: its exit status, and what is said where it has not done what it was asked.
 
-use crate::library::Refusal;
+use crate::files::why;
 use std::io;
-use std::path::Path;
 use std::process::ExitCode;
 
 /// The exit status, from best to worst.
@@ -30,11 +29,6 @@ pub enum Trouble {
 }
 
 impl Trouble {
-    /// A refusal, of a paper that may have come in a file.
-    pub fn refused(refusal: Refusal, file: Option<&Path>) -> Trouble {
-        Trouble::Refused(refusal.told_of(file))
-    }
-
     pub fn failed(what: impl Into<String>) -> Trouble {
         Trouble::Failed(what.into())
     }
@@ -45,7 +39,7 @@ impl From<io::Error> for Trouble {
     fn from(error: io::Error) -> Trouble {
         match error.kind() {
             io::ErrorKind::BrokenPipe => Trouble::Unheard,
-            _ => Trouble::Failed(format!("cannot write the answer: {error}")),
+            _ => Trouble::Failed(format!("cannot write the answer: {}", why(&error))),
         }
     }
 }

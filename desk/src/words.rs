@@ -1,9 +1,12 @@
 //! The words of a command, and its options.
 
 use crate::commands::{Command, Output};
+use crate::files::{named, same};
 use crate::trouble::Trouble;
 use std::ffi::{OsStr, OsString};
+use std::fmt::Display;
 use std::path::Path;
+use std::str::FromStr;
 
 /// What a command was given behind its name.
 #[derive(Default)]
@@ -25,17 +28,13 @@ impl Given {
         Path::new(&self.words[index])
     }
 
-    pub fn word(&self, index: usize) -> &OsStr {
-        &self.words[index]
-    }
-
-    /// Whether a word is there that may be left out.
-    pub fn has(&self, index: usize) -> bool {
-        index < self.words.len()
-    }
-
     pub fn output(&self) -> Option<&Path> {
         self.output.as_deref().map(Path::new)
+    }
+
+    /// Where to write, for a command that must be told.
+    pub fn target(&self) -> &Path {
+        self.output().unwrap_or(Path::new(""))
     }
 }
 
@@ -52,65 +51,95 @@ pub fn taken(
             Some("--") => only_words = true,
             Some("--help" | "-h") => given.help = true,
             Some("-o") if command.output != Output::No => {
-                given.output = Some(behind(&word, &mut words)?)
+                once("-o", &mut given.output, behind("-o", &mut words)?)?
             }
             Some("--budget") if command.budget => {
-                given.budget = Some(number("--budget", &behind(&word, &mut words)?)?)
+                let budget = number("--budget", 0, u32::MAX, &behind("--budget", &mut words)?)?;
+                once("--budget", &mut given.budget, budget)?;
             }
             Some("--names") if command.names => given.names = true,
             Some(option) if is_option(option) => return Err(unknown(command, option)),
             _ => given.words.push(word),
         }
     }
-    if given.help {
-        return Ok(given);
+    if !given.help {
+        asked(command, &given)?;
     }
-    enough(command, &given)?;
     Ok(given)
 }
 
 /// An option begins with a dash; a number below 0 does too, and is none.
 fn is_option(word: &str) -> bool {
-    word.len() > 1 && word.starts_with('-') && word.parse::<i64>().is_err()
+    let behind_dash = word.strip_prefix('-').unwrap_or_default();
+    behind_dash.contains(|letter: char| !letter.is_ascii_digit())
 }
 
-fn enough(command: &Command, given: &Given) -> Result<(), Trouble> {
+/// Whether all is there that a command wants, and nothing is to be written over that it reads.
+fn asked(command: &Command, given: &Given) -> Result<(), Trouble> {
     let Command { name, usage, .. } = command;
     if !command.words.contains(&given.words.len()) {
-        let count = given.words.len();
+        let count = match given.words.len() {
+            0 => "nothing was".to_string(),
+            1 => "one word was".to_string(),
+            count => format!("{count} words were"),
+        };
+        let more = format!("./tolmupung {name} --help says more");
         return Err(Trouble::failed(format!(
-            "{name} wants {usage}, and was given {count} of them; {name} --help says more"
+            "{name} wants {usage}, and {count} given; {more}"
         )));
     }
-    if command.output == Output::Must && given.output.is_none() {
-        return Err(Trouble::failed(format!(
-            "{name} wants {usage}: -o says where to write"
-        )));
+    let Some(output) = given.output() else {
+        return match command.output {
+            Output::Must => Err(Trouble::failed(format!(
+                "{name} wants {usage}: -o says where to write"
+            ))),
+            Output::May | Output::No => Ok(()),
+        };
+    };
+    match given.files().find(|file| same(file, output)) {
+        Some(file) => Err(Trouble::failed(format!(
+            "-o names {}, which {name} reads; take another name",
+            named(file)
+        ))),
+        None => Ok(()),
     }
-    Ok(())
 }
 
 fn unknown(command: &Command, option: &str) -> Trouble {
-    let name = command.name;
+    let (name, option) = (command.name, named(Path::new(option)));
+    let file = format!("a file of that name is ./{option}");
     Trouble::failed(format!(
-        "{name} has no option {option}; {name} --help lists them"
+        "{name} has no option {option}; {file}, and ./tolmupung {name} --help says more"
     ))
 }
 
 /// The word behind an option.
-fn behind(option: &OsStr, words: &mut impl Iterator<Item = OsString>) -> Result<OsString, Trouble> {
-    words
-        .next()
-        .ok_or_else(|| Trouble::failed(format!("{} wants a word behind it", option.display())))
+fn behind(option: &str, words: &mut impl Iterator<Item = OsString>) -> Result<OsString, Trouble> {
+    let word = words.next().filter(|word| !word.is_empty());
+    word.ok_or_else(|| Trouble::failed(format!("{option} wants a word behind it")))
 }
 
-/// A 32-bit number, of either sign or of none as the caller has it.
-pub fn number<N: std::str::FromStr>(what: &str, word: &OsStr) -> Result<N, Trouble> {
+/// Sets what an option says, which it may say once.
+fn once<T>(option: &str, held: &mut Option<T>, word: T) -> Result<(), Trouble> {
+    match held.replace(word) {
+        Some(_) => Err(Trouble::failed(format!("{option} stands twice"))),
+        None => Ok(()),
+    }
+}
+
+/// A number of some type, from the least to the most that it has.
+pub fn number<N: FromStr + Display>(
+    what: &str,
+    least: N,
+    most: N,
+    word: &OsStr,
+) -> Result<N, Trouble> {
     let number = word.to_str().and_then(|word| word.parse().ok());
-    number.ok_or_else(|| {
-        Trouble::failed(format!(
-            "{what} wants a 32-bit number, not {}",
-            word.display()
-        ))
-    })
+    let words = || {
+        format!(
+            "{what} wants a whole number from {least} to {most}, not {}",
+            named(Path::new(word))
+        )
+    };
+    number.ok_or_else(|| Trouble::failed(words()))
 }

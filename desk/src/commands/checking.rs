@@ -1,7 +1,7 @@
 //! Dossiers checked.
 
-use crate::files;
-use crate::library::{self, Checked, Refusal};
+use crate::files::{self, Filed};
+use crate::library::{check_dossier, Checked, Refusal};
 use crate::progress::{tell, Progress};
 use crate::trouble::{Status, Trouble};
 use crate::words::Given;
@@ -12,43 +12,44 @@ use std::path::Path;
 /// A line for each dossier. One that cannot be read is told of on standard error, and the others are checked all the same.
 pub fn check(given: &Given, out: &mut dyn Write) -> Result<Status, Trouble> {
     let files = given.files();
-    let named = given.names || files.len() > 1;
+    let with_names = given.names || files.len() > 1;
     let mut progress = Progress::over(files.len());
     let mut status = Status::Good;
     for file in files {
-        status = status.max(check_one(file, named, out)?);
+        status = status.max(check_file(file, with_names, out)?);
         progress.step();
     }
     Ok(status)
 }
 
-fn check_one(file: &Path, named: bool, out: &mut dyn Write) -> Result<Status, Trouble> {
-    let dossier = match files::paper(file) {
+fn check_file(file: &Path, with_name: bool, out: &mut dyn Write) -> Result<Status, Trouble> {
+    match files::paper(file) {
+        Ok(dossier) => check_one(&dossier, with_name, out),
         Err(Trouble::Failed(why)) => {
             tell(&why);
-            return Ok(Status::Failed);
+            Ok(Status::Failed)
         }
-        read => read?,
-    };
-    let checked = library::check_dossier(&dossier);
-    let mut line = Vec::new();
-    if named {
-        line.extend(file.as_os_str().as_bytes());
-        line.extend(b": ");
+        Err(other) => Err(other),
     }
-    line.extend(verdict(&checked).as_bytes());
-    line.push(b'\n');
+}
+
+fn check_one(dossier: &Filed, with_name: bool, out: &mut dyn Write) -> Result<Status, Trouble> {
+    let checked = check_dossier(&dossier.bytes);
+    let name = match with_name {
+        true => [dossier.name.as_os_str().as_bytes(), b": "].concat(),
+        false => Vec::new(),
+    };
     // in one piece, so that lines of several processes do not mix
-    out.write_all(&line)?;
+    out.write_all(&[&name, verdict(&checked).as_bytes(), b"\n"].concat())?;
     let Err(refusal) = checked else {
         return Ok(Status::Good);
     };
-    tell(&refusal.told_of(Some(file)));
+    tell(&refusal.told_of(dossier));
     Ok(Status::Refused)
 }
 
 /// The line of a dossier, as the program `verdict` writes it.
-pub fn verdict(checked: &Result<Checked, Refusal>) -> String {
+fn verdict(checked: &Result<Checked, Refusal>) -> String {
     match checked {
         Ok(Checked::Cheapest { cost }) => format!("cheapest {cost}"),
         Ok(Checked::None) => "none".to_string(),

@@ -1,14 +1,17 @@
 //! What a command writes to the file behind -o.
 
-use crate::files;
+use crate::files::{self, named};
 use crate::trouble::{Status, Trouble};
 use crate::words::Given;
 use std::io::Write;
 
-/// Keeps what was written, and says so.
+/// Writes where -o says, and says so; or says how long it would be.
 pub fn written(given: &Given, out: &mut dyn Write, bytes: &[u8]) -> Result<Status, Trouble> {
-    let kept = kept(given, bytes)?;
-    writeln!(out, "written, {} bytes{kept}", bytes.len())?;
+    let length = bytes.len();
+    match given.output() {
+        Some(_) => writeln!(out, "written, {length} bytes{}", kept(given, bytes)?)?,
+        None => writeln!(out, "it has {length} bytes; -o FILE writes it")?,
+    }
     Ok(Status::Good)
 }
 
@@ -18,5 +21,5 @@ pub fn kept(given: &Given, bytes: &[u8]) -> Result<String, Trouble> {
         return Ok(String::new());
     };
     files::write(file, bytes)?;
-    Ok(format!(", in {}", file.display()))
+    Ok(format!(", in {}", named(file)))
 }

@@ -83,10 +83,11 @@ refused by and what that means. Status 0: passed. Status 1: refused.",
         budget: true,
         brief: "search for the cheapest plan",
         help: "\
-Searches for the first of the cheapest plans. Says `found`, the cost and the
-visits; `none` where no plan meets the rules; or `spent` where the walk needs more
-visits than the budget, which is 4294967295 unless another is given. With -o the
-plan found is written. Status 0: found. Status 1: none, spent or refused.",
+Searches for the first of the cheapest plans. Says `found`, the cost and the visits;
+`none` where no plan meets the rules; or `spent` where the walk needs more visits
+than the budget. That is 4294967295 unless another is given, and so many may take
+some minutes. With -o the plan found is written. Status 0: found. Status 1: none,
+spent or refused.",
         run: planning::search,
         ..PLAIN
     },
@@ -99,7 +100,7 @@ plan found is written. Status 0: found. Status 1: none, spent or refused.",
         help: "\
 Writes the house note: that no plan is cheaper than this one or, without a plan,
 that no plan meets the rules. Refused by 44 where that is not so, and by 22 where
-the note would have more than 60,000 bytes. Status 0: written. Status 1: refused.",
+60,000 bytes are full, whichever comes first. Status 0: written. Status 1: refused.",
         run: planning::note,
         ..PLAIN
     },
@@ -136,8 +137,8 @@ and starts stay. Status 0: written. Status 1: refused.",
         brief: "file job, plan and note in a dossier",
         help: "\
 Puts the papers into one dossier, as they are: whether they hold is for `check`
-to say. Without a plan the dossier has none. Status 0: written. Status 1: it would
-be too long.",
+to say. Where two are named they are job and note, and the dossier has no plan.
+Status 0: written. Status 1: it would be too long.",
         run: sheets::pack,
         ..PLAIN
     },
@@ -147,9 +148,9 @@ be too long.",
         output: Output::Must,
         brief: "take a dossier's papers apart",
         help: "\
-Writes the papers to STEM.job, STEM.plan and STEM.note, as they are; STEM.plan
-only where the dossier has a plan. Status 0: written. Status 1: the dossier's own
-header is refused.",
+Writes the papers to STEM.job, STEM.plan and STEM.note, as they are; one that has
+no bytes is left out. Status 0: written. Status 1: the dossier's own header is
+refused.",
         run: sheets::unpack,
         ..PLAIN
     },
@@ -159,8 +160,10 @@ header is refused.",
         brief: "show a job, plan, note or dossier in words",
         help: "\
 Shows any sheet in words, by the form that it begins with. A job or a plan is
-shown as the text that `make` takes. A note by itself is shown as its marks, and
-an accepted one in a dossier as its tree. Status 0: shown. Status 1: refused.",
+shown as the text that `make` takes. A note by itself is shown as its marks, an
+accepted one in a dossier as its tree, and of either no more than 200 lines. What
+a dossier is answered stands at its head. Status 0: shown. Status 1: the sheet is
+not sound.",
         run: sheets::show,
         ..PLAIN
     },
@@ -170,9 +173,10 @@ an accepted one in a dossier as its tree. Status 0: shown. Status 1: refused.",
         output: Output::Must,
         brief: "make a job or plan sheet from text",
         help: "\
-Reads a job or a plan as text, laid out as `show` has it, and writes its sheet.
-Commas, spaces and what follows a # count for nothing. Status 0: written.
-Status 1: the numbers are refused. Status 2: the text cannot be understood.",
+Reads a job or a plan as text, a line for each thing as `show` has them, and writes
+its sheet. Words are parted by spaces or commas; what follows a # counts for nothing.
+Status 0: written. Status 1: the numbers are refused. Status 2: the text cannot be
+understood.",
         run: sheets::make,
         ..PLAIN
     },
@@ -185,7 +189,7 @@ Status 1: the numbers are refused. Status 2: the text cannot be understood.",
         help: "\
 Draws the plan: steps across, instances down, a bar for each operation. One that
 is refused is drawn too, as far as it goes, with the reason above. Status 0: the
-plan passes. Status 1: it is refused, or a sheet could not be read as one.",
+plan passes. Status 1: it is refused, or a sheet is not sound and nothing is drawn.",
         run: sheets::draw,
         ..PLAIN
     },
@@ -207,7 +211,8 @@ pub fn overview() -> String {
         "./tolmupung COMMAND .. asks the proved library about jobs, plans, notes and dossiers.\n\n\
          {lines}\n\
          ./tolmupung COMMAND --help says what a command wants, gives and writes.\n\
-         Status 0: done, and nothing was refused. Status 1: refused. Status 2: could not be\n\
-         read, written or understood, and standard error says why.\n"
+         Behind -- every word is a file's name; /dev/stdin and /dev/stdout are files too.\n\
+         Status 0: done, and nothing was refused. Status 1: refused, or nothing was found.\n\
+         Status 2: could not be read, written or understood, and standard error says why.\n"
     )
 }

@@ -1,95 +1,155 @@
 //! Plans judged, searched for, noted and moved.
 
 use super::keeping::{kept, written};
-use crate::files;
+use crate::files::{self, Filed};
 use crate::library::{self, Paper, Refusal, Searched};
 use crate::progress::timed;
 use crate::refusals::meaning;
 use crate::trouble::{Status, Trouble};
 use crate::words::{number, Given};
 use std::io::Write;
+use std::path::Path;
 
-/// A refusal of what was asked about job and plan, which are the first two words.
-fn refused(given: &Given, refusal: Refusal) -> Trouble {
-    let file = match refusal.paper {
-        Paper::Job => Some(given.file(0)),
-        Paper::Plan => Some(given.file(1)),
-        Paper::Note | Paper::Dossier | Paper::Request => None,
-    };
-    Trouble::refused(refusal, file)
+/// What a question about plans is asked of: a job, and a plan where there is one.
+struct Asked {
+    job: Filed,
+    plan: Option<Filed>,
+}
+
+impl Asked {
+    /// Job and plan are the first two words; where the plan is left out there is none.
+    fn of(given: &Given, plan: fn(&Path) -> Result<Filed, Trouble>) -> Result<Asked, Trouble> {
+        let job = files::paper(given.file(0))?;
+        let plan = given.files().nth(1).map(plan).transpose()?;
+        Ok(Asked { job, plan })
+    }
+
+    fn job(&self) -> &[u8] {
+        &self.job.bytes
+    }
+
+    fn plan(&self) -> &[u8] {
+        self.plan.as_ref().map_or(&[], |plan| &plan.bytes)
+    }
+
+    /// A refusal, told of the file that holds the paper.
+    fn refused(&self, refusal: Refusal) -> Trouble {
+        let told = match (refusal.paper, &self.plan) {
+            (Paper::Job, _) => refusal.told_of(&self.job),
+            (Paper::Plan, Some(plan)) => refusal.told_of(plan) + &self.counts(refusal.number),
+            _ => refusal.told(),
+        };
+        Trouble::Refused(told)
+    }
+
+    /// How many there are of both, where the plan has others than the job.
+    fn counts(&self, number: u32) -> String {
+        let both = (
+            library::read_job(self.job()),
+            library::read_plan(self.plan()),
+        );
+        match (number, both) {
+            (Refusal::COUNTS_DIFFER, (Ok(job), Ok(plan))) => format!(
+                ": {} rows and {} selection bits for {} operations and {} instances",
+                plan.n,
+                plan.k,
+                job.n,
+                job.instances().len()
+            ),
+            _ => String::new(),
+        }
+    }
+
+    /// Keeps what the library wrote, or tells its refusal.
+    fn written(
+        &self,
+        given: &Given,
+        out: &mut dyn Write,
+        sheet: Result<Vec<u8>, Refusal>,
+    ) -> Result<Status, Trouble> {
+        let sheet = sheet.map_err(|refusal| self.refused(refusal))?;
+        written(given, out, &sheet)
+    }
 }
 
 pub fn judge(given: &Given, out: &mut dyn Write) -> Result<Status, Trouble> {
-    let [job, plan] = [files::paper(given.file(0))?, files::paper(given.file(1))?];
-    let cost = library::judge(&job, &plan).map_err(|refusal| refused(given, refusal))?;
+    let asked = Asked::of(given, files::paper)?;
+    let judged = library::judge(asked.job(), asked.plan());
+    let cost = judged.map_err(|refusal| asked.refused(refusal))?;
     writeln!(out, "passed, cost {cost}")?;
     Ok(Status::Good)
 }
 
 pub fn search(given: &Given, out: &mut dyn Write) -> Result<Status, Trouble> {
-    let job = files::paper(given.file(0))?;
+    let asked = Asked::of(given, files::paper)?;
     let budget = given.budget.unwrap_or(u32::MAX);
-    let searched = timed("searching", || library::search(&job, budget));
-    match searched.map_err(|refusal| refused(given, refusal))? {
+    let searched = timed("searching", || library::search(asked.job(), budget));
+    match searched.map_err(|refusal| asked.refused(refusal))? {
         Searched::Found { cost, visits, plan } => {
             let kept = kept(given, &plan)?;
-            writeln!(out, "found, cost {cost}, {visits} visits{kept}")?;
+            writeln!(out, "found, cost {cost}, visits {visits}{kept}")?;
             Ok(Status::Good)
         }
-        Searched::None { visits } => {
-            writeln!(out, "none, {visits} visits: {} (31)", meaning(31))?;
-            Ok(Status::Refused)
-        }
-        Searched::Spent { visits } => {
-            writeln!(out, "spent, {visits} visits: {} (30)", meaning(30))?;
-            Ok(Status::Refused)
-        }
+        Searched::None { visits } => not_found(out, "none", visits, Refusal::NO_PLAN),
+        Searched::Spent { visits } => not_found(out, "spent", visits, Refusal::BUDGET_SPENT),
     }
 }
 
-pub fn note(given: &Given, out: &mut dyn Write) -> Result<Status, Trouble> {
-    let job = files::paper(given.file(0))?;
-    let plan = match given.has(1) {
-        true => files::plan(given.file(1))?,
-        false => Vec::new(),
-    };
-    let note = library::write_note(&job, &plan);
-    let why = note
-        .as_ref()
-        .map_or_else(|refusal| why_no_note(refusal.number, given.has(1)), |_| "");
-    answered(given, out, note).map_err(|trouble| match trouble {
-        Trouble::Refused(line) => Trouble::Refused(line + why),
-        other => other,
-    })
+fn not_found(
+    out: &mut dyn Write,
+    outcome: &str,
+    visits: u32,
+    number: u32,
+) -> Result<Status, Trouble> {
+    writeln!(
+        out,
+        "{outcome}, visits {visits}: {} ({number})",
+        meaning(number)
+    )?;
+    Ok(Status::Refused)
 }
 
-/// Why there is no house note, where the number leaves that open.
+pub fn note(given: &Given, out: &mut dyn Write) -> Result<Status, Trouble> {
+    let asked = Asked::of(given, files::plan)?;
+    let note = library::write_note(asked.job(), asked.plan());
+    let why = match (&note, &asked.plan) {
+        (Err(refusal), plan) => why_no_note(refusal.number, plan.is_some()),
+        (Ok(_), _) => "",
+    };
+    asked
+        .written(given, out, note)
+        .map_err(|trouble| match trouble {
+            Trouble::Refused(line) => Trouble::Refused(line + why),
+            other => other,
+        })
+}
+
+/// What else can be said of the house writer's own refusals.
 fn why_no_note(number: u32, plan: bool) -> &'static str {
     match (number, plan) {
-        (22, _) => "; the house note would have more than 60,000 bytes",
-        (44, true) => "; another plan costs less",
-        (44, false) => "; there is a plan",
+        (Refusal::OUTPUT_SHORT, _) => "; 60,000 bytes are full before its walk has ended",
+        (Refusal::CHEAPER, true) => "; another plan costs less",
+        (Refusal::CHEAPER, false) => "; there is a plan",
         _ => "",
     }
 }
 
 pub fn slide(given: &Given, out: &mut dyn Write) -> Result<Status, Trouble> {
-    let [job, plan] = [files::paper(given.file(0))?, files::paper(given.file(1))?];
-    let distance = number("the distance", given.word(2))?;
-    answered(given, out, library::slide(&job, &plan, distance))
+    let asked = Asked::of(given, files::paper)?;
+    let distance = number(
+        "the distance",
+        i32::MIN,
+        i32::MAX,
+        given.file(2).as_os_str(),
+    )?;
+    asked.written(
+        given,
+        out,
+        library::slide(asked.job(), asked.plan(), distance),
+    )
 }
 
 pub fn tidy(given: &Given, out: &mut dyn Write) -> Result<Status, Trouble> {
-    let [job, plan] = [files::paper(given.file(0))?, files::paper(given.file(1))?];
-    answered(given, out, library::tidy(&job, &plan))
-}
-
-/// Keeps what the library wrote, or tells its refusal.
-fn answered(
-    given: &Given,
-    out: &mut dyn Write,
-    sheet: Result<Vec<u8>, Refusal>,
-) -> Result<Status, Trouble> {
-    let sheet = sheet.map_err(|refusal| refused(given, refusal))?;
-    written(given, out, &sheet)
+    let asked = Asked::of(given, files::paper)?;
+    asked.written(given, out, library::tidy(asked.job(), asked.plan()))
 }

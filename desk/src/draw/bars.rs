@@ -1,6 +1,6 @@
 //! A plan's rows as bars: which can be drawn, when each operation works, and in which lane of its instance.
 
-use crate::record::{Job, Plan, Work, INST_CELLS};
+use crate::record::{Job, Plan, Timing, INST_CELLS};
 use std::collections::BTreeMap;
 use std::ops::Range;
 
@@ -10,10 +10,10 @@ pub struct Bar {
     pub kind: u16,
     pub start: usize,
     pub instance: usize,
-    pub timing: Work,
+    pub timing: Timing,
     pub steps: Range<u32>,
-    /// After this its unit can take the next operation.
-    pub busy: Range<u32>,
+    /// Its spacing, from its start on.
+    pub spacing: Range<u32>,
     /// In a chain it begins when results have arrived; where the chain is too long it leaves the steps.
     pub work: Range<u32>,
     pub lane: usize,
@@ -21,7 +21,7 @@ pub struct Bar {
 
 impl Bar {
     /// Its instance and lane.
-    fn place(&self) -> (usize, usize) {
+    fn row(&self) -> (usize, usize) {
         (self.instance, self.lane)
     }
 }
@@ -117,17 +117,17 @@ impl Rows {
     fn hang(&mut self, job: &Job) {
         let own = self
             .bonds(job)
-            .filter(|(_, first, second)| first.place() == second.place());
+            .filter(|(_, first, second)| first.row() == second.row());
         let mut hooks: Vec<_> = own
             .map(|(_, first, second)| {
                 let [begin, end] = [first.work.end, second.work.start];
                 let span = [begin.min(end), begin.max(end)];
-                (span, (first.operation, second.operation), first.place())
+                (span, (first.operation, second.operation), first.row())
             })
             .collect();
         hooks.sort();
-        for ([begin, end], link, place) in hooks {
-            let levels = self.levels.entry(place).or_default();
+        for ([begin, end], link, row) in hooks {
+            let levels = self.levels.entry(row).or_default();
             self.hung.insert(link, first_free(levels, begin..end));
         }
     }
@@ -174,7 +174,7 @@ fn lone_bar(job: &Job, plan: &Plan, operation: usize) -> Result<Bar, String> {
         return Err(format!("no instance {instance}"));
     }
     let cannot = || format!("instance {instance} cannot do kind {kind}");
-    let timing = job.work_on(instance, operation).ok_or_else(cannot)?;
+    let timing = job.timing_on(instance, operation).ok_or_else(cannot)?;
     let clock = u32::from(job.clock);
     let begin = (start as u32 - 1) * clock;
     Ok(Bar {
@@ -184,7 +184,7 @@ fn lone_bar(job: &Job, plan: &Plan, operation: usize) -> Result<Bar, String> {
         instance,
         timing,
         steps: begin..begin + clock * u32::from(timing.delay),
-        busy: begin..begin + clock * u32::from(timing.spacing),
+        spacing: begin..begin + clock * u32::from(timing.spacing),
         work: begin..begin + u32::from(timing.time),
         lane: 0,
     })

@@ -4,7 +4,7 @@ use super::bars::{Bond, Rows};
 use super::layout::{Frame, SMALL, TYPE_COLUMN};
 use super::marks::{draw_courses, outline, Course};
 use super::style::HEAD;
-use super::svg::Sheet;
+use super::svg::Page;
 use crate::record::{Job, Plan, KINDS};
 use Sample::{Area, Arrow, Kind, Torn};
 
@@ -12,8 +12,9 @@ const LINE_HIGH: f64 = 15.0;
 const GAP: f64 = 5.0;
 const SWATCH: f64 = 9.0;
 const SAMPLE: f64 = 30.0;
-const KIND_COLUMN: f64 = 72.0;
 const MARK_COLUMN: f64 = 230.0;
+/// How far an arrow stands above the foot of its words.
+const ARROW_ABOVE: f64 = 4.0;
 
 enum Sample {
     Kind(usize),
@@ -31,13 +32,13 @@ impl Sample {
         }
     }
 
-    fn draw(&self, sheet: &mut Sheet, x: f64, base: f64) {
+    fn draw(&self, page: &mut Page, x: f64, base: f64) {
         let top = base - SWATCH;
         match self {
-            Kind(kind) => sheet.rect(&format!("work k{kind}"), [x, top, SWATCH, SWATCH]),
-            Area(class) => sheet.rect(class, [x, top, SAMPLE, SWATCH]),
-            Torn => sheet.path("bar plain", &outline([x, top, SAMPLE - GAP, SWATCH], true)),
-            Arrow(bond) => draw_courses(sheet, &[(*bond, arrow(x, base - 4.0))]),
+            Kind(kind) => page.rect(&format!("work k{kind}"), [x, top, SWATCH, SWATCH]),
+            Area(class) => page.rect(class, [x, top, SAMPLE, SWATCH]),
+            Torn => page.path("bar plain", &outline([x, top, SAMPLE - GAP, SWATCH], true)),
+            Arrow(bond) => draw_courses(page, &[(*bond, arrow(x, base - ARROW_ABOVE))]),
         }
     }
 }
@@ -46,6 +47,7 @@ impl Sample {
 fn arrow(x: f64, y: f64) -> Course {
     let end = x + SAMPLE - HEAD;
     Course {
+        from: [x + 2.0, y],
         line: format!("M{x:.1} {y:.1}H{end:.1}"),
         tip: format!("M{end:.1} {y:.1}h.1"),
     }
@@ -80,11 +82,11 @@ impl Keys {
         LINE_HIGH * lines as f64
     }
 
-    pub fn draw(&self, sheet: &mut Sheet, left: f64, top: f64) {
+    pub fn draw(&self, page: &mut Page, left: f64, top: f64) {
         for ((sample, words), &(x, line)) in self.keys.iter().zip(&self.places) {
             let [x, base] = [left + x, top + LINE_HIGH * line as f64 + SMALL.1];
-            sample.draw(sheet, x, base);
-            sheet.text(SMALL, x + sample.wide() + GAP, base, words);
+            sample.draw(page, x, base);
+            page.text(SMALL, x + sample.wide() + GAP, base, words);
         }
     }
 }
@@ -92,23 +94,14 @@ impl Keys {
 /// What a type can do.
 pub fn abilities(job: &Job, unit: usize) -> Keys {
     let able = (0..KINDS).filter_map(|kind| {
-        let work = job.work(unit, kind)?;
-        let mut words = format!("kind {kind} {} ns", work.time);
-        if work.interval != work.time {
-            words += &format!(", interval {} ns", work.interval);
+        let timing = job.timing(unit, kind)?;
+        let mut words = format!("kind {kind}: {} ns", timing.time);
+        if timing.interval != timing.time {
+            words += &format!(", interval {} ns", timing.interval);
         }
         Some((Kind(kind), words))
     });
     Keys::set(able.collect(), 1.0, TYPE_COLUMN)
-}
-
-/// The kinds of the job's operations.
-pub fn kinds(job: &Job, limit: f64) -> Keys {
-    let has = |kind: &usize| job.operations().any(|o| usize::from(job.kinds[o]) == *kind);
-    let keys = (0..KINDS)
-        .filter(has)
-        .map(|kind| (Kind(kind), format!("kind {kind}")));
-    Keys::set(keys.collect(), KIND_COLUMN, limit)
 }
 
 /// The marks in the grid, as far as they occur.
@@ -122,10 +115,14 @@ pub fn marks(job: &Job, plan: &Plan, rows: &Rows, frame: &Frame, limit: f64) -> 
     let marks = [
         (bars, Area("bar plain"), "an operation's steps (delay)"),
         (bars, Area("work plain"), "its working time, to scale"),
-        (bars, Area("busy"), "its unit is busy (spacing)"),
+        (bars, Area("spacing"), "its spacing"),
         (links(link), Arrow(link), "link"),
         (links(chain), Arrow(chain), "chain: link within a step"),
-        (links(broken), Arrow(broken), "link that goes back in time"),
+        (
+            links(broken),
+            Arrow(broken),
+            "broken link: starts too early",
+        ),
         (torn, Torn, "goes on beyond the deadline"),
         (excess, Area("excess"), "work beyond its step"),
         (unselected, Area("unselected"), "instance not selected"),

@@ -24,12 +24,12 @@ const OVERRUN: f64 = 14.0;
 /// The teeth of its torn edge stand beyond that.
 pub const TOOTH: f64 = 4.0;
 
-/// A bar holds its tag, below that its work, below that the busy strip.
+/// A bar holds its tag, below that its work, below that its spacing.
 pub const BAR_HIGH: f64 = 34.0;
 pub const WORK_TOP: f64 = 18.0;
 pub const WORK_HIGH: f64 = 7.0;
-pub const BUSY_TOP: f64 = 28.0;
-pub const BUSY_HIGH: f64 = 4.0;
+pub const SPACING_TOP: f64 = 28.0;
+pub const SPACING_HIGH: f64 = 4.0;
 const LANE_HIGH: f64 = 46.0;
 /// A level of links below a lane.
 pub const LEVEL_HIGH: f64 = 6.0;

@@ -1,9 +1,11 @@
 //! What is drawn in the grid: bars, the links between them, and the bars' tags.
 
 use super::bars::{Bar, Bond, Rows};
-use super::layout::{Frame, BAR_HIGH, BUSY_HIGH, BUSY_TOP, LEVEL_HIGH, TOOTH, WORK_HIGH, WORK_TOP};
+use super::layout::{
+    Frame, BAR_HIGH, LEVEL_HIGH, SPACING_HIGH, SPACING_TOP, TOOTH, WORK_HIGH, WORK_TOP,
+};
 use super::style::HEAD;
-use super::svg::{Face, Sheet};
+use super::svg::{Face, Page};
 use crate::record::Job;
 
 const TEETH: usize = 5;
@@ -22,10 +24,12 @@ const NUMBER: Face = Face("strong over", 11.5);
 const DIGIT_WIDE: f64 = 8.1;
 const KIND: Face = Face("over", 9.5);
 const TAG_PAD: f64 = 2.0;
+/// The foot of its letters.
+const TAG_FOOT: f64 = 11.0;
 /// From this width on a bar has room for the word kind.
 const ROOMY: f64 = 70.0;
 
-pub fn draw_bars(sheet: &mut Sheet, frame: &Frame, rows: &Rows) {
+pub fn draw_bars(page: &mut Page, frame: &Frame, rows: &Rows) {
     for bar in &rows.bars {
         let [operation, start, instance] = [bar.operation, bar.start, bar.instance];
         let [time, delay, spacing] = [bar.timing.time, bar.timing.delay, bar.timing.spacing];
@@ -34,11 +38,11 @@ pub fn draw_bars(sheet: &mut Sheet, frame: &Frame, rows: &Rows) {
              time {time} ns, delay {delay}, spacing {spacing}",
             bar.kind
         );
-        sheet.tipped(&tip, |sheet| draw_bar(sheet, frame, bar));
+        page.tipped(&tip, |page| draw_bar(page, frame, bar));
     }
 }
 
-fn draw_bar(sheet: &mut Sheet, frame: &Frame, bar: &Bar) {
+fn draw_bar(page: &mut Page, frame: &Frame, bar: &Bar) {
     let kind = bar.kind;
     let steps = frame.span(bar, &bar.steps, 0.0, BAR_HIGH);
     let work = |ns| {
@@ -46,13 +50,16 @@ fn draw_bar(sheet: &mut Sheet, frame: &Frame, bar: &Bar) {
         let wide = (wide - 2.0 * WORK_INSIDE).max(WORK_LEAST);
         [x + WORK_INSIDE, y, wide, high]
     };
-    sheet.path(&format!("bar k{kind}"), &outline(steps, frame.clips(bar)));
-    sheet.rect(&format!("work k{kind}"), work(&bar.work));
+    page.path(&format!("bar k{kind}"), &outline(steps, frame.clips(bar)));
+    page.rect(&format!("work k{kind}"), work(&bar.work));
     if bar.work.end > bar.steps.end {
         let begin = bar.steps.end.max(bar.work.start);
-        sheet.rect("excess", work(&(begin..bar.work.end)));
+        page.rect("excess", work(&(begin..bar.work.end)));
     }
-    sheet.rect("busy", frame.span(bar, &bar.busy, BUSY_TOP, BUSY_HIGH));
+    page.rect(
+        "spacing",
+        frame.span(bar, &bar.spacing, SPACING_TOP, SPACING_HIGH),
+    );
 }
 
 /// A box; its right edge is torn where the bar goes on.
@@ -63,14 +70,15 @@ pub fn outline([x, y, wide, high]: [f64; 4], torn: bool) -> String {
     format!("M{x:.1} {y:.1}H{right:.1}{teeth}V{bottom:.1}H{x:.1}Z")
 }
 
-/// Where a link is drawn: its line, and a last stretch that carries the arrow's head.
+/// Where a link is drawn: a dot where it begins, its line, and a last stretch that carries the arrow's head.
 pub struct Course {
+    pub from: [f64; 2],
     pub line: String,
     pub tip: String,
 }
 
-/// Calm links first, so that chains and broken links stand above them; and heads last, so that no line hides them.
-pub fn draw_links(sheet: &mut Sheet, job: &Job, frame: &Frame, rows: &Rows) {
+/// Calm links first, so that chains and broken links stand above them; and dots and heads last, so that no line hides them.
+pub fn draw_links(page: &mut Page, job: &Job, frame: &Frame, rows: &Rows) {
     let mut bonds: Vec<_> = rows.bonds(job).collect();
     bonds.sort_by_key(|&(bond, _, _)| bond);
     let courses = bonds.into_iter().map(|(bond, first, second)| {
@@ -80,16 +88,21 @@ pub fn draw_links(sheet: &mut Sheet, job: &Job, frame: &Frame, rows: &Rows) {
         };
         (bond, course)
     });
-    draw_courses(sheet, &courses.collect::<Vec<_>>());
+    draw_courses(page, &courses.collect::<Vec<_>>());
 }
 
-pub fn draw_courses(sheet: &mut Sheet, courses: &[(Bond, Course)]) {
+pub fn draw_courses(page: &mut Page, courses: &[(Bond, Course)]) {
     for (bond, course) in courses {
-        sheet.path("halo", &course.line);
-        sheet.path(bond.class(), &course.line);
+        page.path("halo", &course.line);
+        page.path(bond.class(), &course.line);
     }
     for (bond, course) in courses {
-        sheet.path(&format!("{}-tip", bond.class()), &course.tip);
+        let [x, y] = course.from;
+        page.path(
+            &format!("{}-dot", bond.class()),
+            &format!("M{x:.1} {y:.1}h.1"),
+        );
+        page.path(&format!("{}-tip", bond.class()), &course.tip);
     }
 }
 
@@ -107,6 +120,7 @@ fn curve(frame: &Frame, first: &Bar, second: &Bar) -> Course {
     let reach = ((end - x1).abs() / 2.0).clamp(least, REACH_MOST);
     let [out, back] = [x1 + reach, end - reach];
     Course {
+        from: [x1, y1],
         line: format!("M{x1:.1} {y1:.1}C{out:.1} {y1:.1} {back:.1} {y2:.1} {end:.1} {y2:.1}"),
         tip: format!("M{end:.1} {y2:.1}h.1"),
     }
@@ -126,20 +140,21 @@ fn hook(frame: &Frame, first: &Bar, second: &Bar, level: usize) -> Course {
          H{back:.1}Q{x2:.1} {deep:.1} {x2:.1} {above:.1}V{end:.1}"
     );
     let tip = format!("M{x2:.1} {end:.1}v-.1");
-    Course { line, tip }
+    let from = [x1, y];
+    Course { from, line, tip }
 }
 
 /// The number and the kind of each bar. They are drawn last, so that no link hides them.
-pub fn draw_tags(sheet: &mut Sheet, frame: &Frame, rows: &Rows) {
+pub fn draw_tags(page: &mut Page, frame: &Frame, rows: &Rows) {
     for bar in &rows.bars {
         let [x, y, wide, _] = frame.span(bar, &bar.steps, TAG_PAD, BAR_HIGH);
-        let [left, most, base] = [x + TAG_PAD, wide - 2.0 * TAG_PAD, y + 11.0];
+        let [left, most, base] = [x + TAG_PAD, wide - 2.0 * TAG_PAD, y + TAG_FOOT];
         let number = bar.operation.to_string();
         let kind = format!("{}{}", if wide < ROOMY { "k" } else { "kind " }, bar.kind);
         let number_wide = DIGIT_WIDE * number.len() as f64 + 2.0 * TAG_PAD;
         let tag_wide = (number_wide + KIND.wide(&kind) + TAG_PAD).min(most);
-        sheet.rect("tag", [left, y, tag_wide, WORK_TOP - 2.0 * TAG_PAD]);
-        sheet.text(NUMBER, left + 1.0, base, &number);
-        sheet.text(KIND, left + number_wide, base, &kind);
+        page.rect("tag", [left, y, tag_wide, WORK_TOP - 2.0 * TAG_PAD]);
+        page.text(NUMBER, left + 1.0, base, &number);
+        page.text(KIND, left + number_wide, base, &kind);
     }
 }

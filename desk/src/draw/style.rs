@@ -34,16 +34,19 @@ text{font-family:sans-serif;fill:#222}
 .deadline{fill:none;stroke:#222;stroke-width:2}
 .plain.work{fill:#8A8A8A}
 .plain.bar{fill:#F4F4F4;stroke:#777}
-.busy{fill:url(#hatch);stroke:#555;stroke-width:.6}
+.spacing{fill:url(#hatch);stroke:#555;stroke-width:.6}
 .excess{fill:#D0021B}
 .tag{fill:#fff;fill-opacity:.88}
-.tag,.halo,.link,.chain,.broken,.link-tip,.chain-tip,.broken-tip,.over{pointer-events:none}
+.tag,.halo,.over,[class^=link],[class^=chain],[class^=broken]{pointer-events:none}
 .halo{fill:none;stroke:#fff;stroke-opacity:.85;stroke-width:4.5}
 .link{fill:none;stroke:#52616F;stroke-width:1.1}
+.link-dot{stroke:#52616F;stroke-width:4.4;stroke-linecap:round}
 .link-tip{marker-end:url(#link-head)}
 .chain{fill:none;stroke:#6A1B9A;stroke-width:2.2}
+.chain-dot{stroke:#6A1B9A;stroke-width:5;stroke-linecap:round}
 .chain-tip{marker-end:url(#chain-head)}
 .broken{fill:none;stroke:#D0021B;stroke-width:1.6;stroke-dasharray:5 3}
+.broken-dot{stroke:#D0021B;stroke-width:4.4;stroke-linecap:round}
 .broken-tip{marker-end:url(#broken-head)}
 ";
 

@@ -75,11 +75,11 @@ pub fn escaped(words: &str) -> String {
 
 /// What has been written so far.
 #[derive(Default)]
-pub struct Sheet {
+pub struct Page {
     body: String,
 }
 
-impl Sheet {
+impl Page {
     fn put(&mut self, element: &str) {
         self.body += element;
         self.body.push('\n');
@@ -116,7 +116,7 @@ impl Sheet {
     }
 
     /// Elements with a hover tip.
-    pub fn tipped(&mut self, tip: &str, draw: impl FnOnce(&mut Sheet)) {
+    pub fn tipped(&mut self, tip: &str, draw: impl FnOnce(&mut Page)) {
         self.put(&format!("<g><title>{}</title>", escaped(tip)));
         draw(self);
         self.put("</g>");

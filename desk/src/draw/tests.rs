@@ -93,6 +93,21 @@ fn every_operation_is_drawn_or_listed() {
     assert!(picture.contains("no row for operation 2<"));
 }
 
+/// What breaks 15, 16 and 18 is drawn so that it is seen, and named below the grid.
+#[test]
+fn what_is_wrong_is_named_in_the_legend() {
+    let (mut job, plan) = chained();
+    let told = |job: &Job, words| drawn(job, &plan).contains(words);
+    assert!(!told(&job, "work beyond its step"));
+    job.times[KINDS + 1] = 80;
+    assert!(told(&job, "work beyond its step"));
+    assert!(!told(&job, "broken link: starts too early"));
+    assert!(!told(&job, "goes on beyond the deadline"));
+    job.times[KINDS + 1] = 150;
+    assert!(told(&job, "broken link: starts too early"));
+    assert!(told(&job, "goes on beyond the deadline"));
+}
+
 #[test]
 fn text_is_escaped() {
     assert_eq!(escaped("<&>\""), "&lt;&amp;&gt;&quot;");

@@ -51,16 +51,16 @@ fn type_text(job: &Job, unit: usize) -> String {
 
 /// The line of a kind that a type can do.
 fn ability_text(job: &Job, unit: usize, kind: usize) -> String {
-    let Some(work) = job.work(unit, kind) else {
+    let Some(timing) = job.timing(unit, kind) else {
         return String::new();
     };
     let line = format!(
         "     kind {kind} time {} interval {}",
-        work.time, work.interval
+        timing.time, timing.interval
     );
     commented(
         &line,
-        &format!("delay {}, spacing {}", work.delay, work.spacing),
+        &format!("delay {}, spacing {}", timing.delay, timing.spacing),
     )
 }
 
@@ -87,6 +87,7 @@ fn operations_made(lines: &mut Lines, job: &mut Job) -> Result<(), Mistake> {
         if !line.ended() {
             line.word("after")?;
             let here = counted(operation);
+            links.push((line.number()?, here));
             links.extend(line.numbers()?.into_iter().map(|from| (from, here)));
         }
         if operation < OP_CELLS {

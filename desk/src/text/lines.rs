@@ -111,7 +111,7 @@ impl<'a> Lines<'a> {
         let line = self.lines.peek().map(|line| line.number);
         let found = self
             .first_word()
-            .map_or(String::new(), |word| format!("`{word}` where "));
+            .map_or(String::new(), |word| format!("{} where ", quoted(word)));
         let verb = if found.is_empty() {
             "is missing"
         } else {
@@ -129,6 +129,20 @@ impl<'a> Lines<'a> {
             None => Err(self.expected("a line")),
         }
     }
+}
+
+/// A word as a message can hold it.
+fn quoted(word: &str) -> String {
+    const MOST: usize = 40;
+    let printed = word
+        .chars()
+        .map(|letter| if letter.is_control() { '?' } else { letter });
+    let cut = if word.chars().count() > MOST {
+        ".."
+    } else {
+        ""
+    };
+    format!("`{}{cut}`", printed.take(MOST).collect::<String>())
 }
 
 /// The words of a line in front of its comment.
@@ -156,6 +170,7 @@ impl Line<'_> {
         }
         let most = u16::MAX;
         digits.parse().map_err(|_| {
+            let digits = quoted(digits);
             self.mistake(format!(
                 "{digits} is more than {most}, the most of any number"
             ))
@@ -197,7 +212,7 @@ impl Line<'_> {
     }
 
     fn instead(&self, found: Option<&str>, expected: &str) -> Mistake {
-        let found = found.map_or("the line ends".to_string(), |word| format!("`{word}`"));
+        let found = found.map_or("the line ends".to_string(), quoted);
         self.mistake(format!("{found} where {expected} should stand"))
     }
 }

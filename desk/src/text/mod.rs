@@ -1,7 +1,7 @@
 //! Jobs and plans as text that a person reads and writes. `show` and `make` undo each other: the text of a sheet makes
 //! that sheet again, and a text in the layout of `show` is shown again as it was.
 //!
-//! Each line says one thing, in words and numbers; commas, spaces and what follows a `#` count for nothing.
+//! Each line says one thing, in words and numbers, parted by spaces or commas; what follows a `#` counts for nothing.
 
 mod job;
 mod lines;
@@ -30,9 +30,9 @@ impl Record {
     }
 }
 
-/// The record that a text says.
+/// The record that a text says. Some editors put a mark before it that says which order its bytes have.
 pub fn made(text: &str) -> Result<Record, Mistake> {
-    let mut lines = Lines::of(text);
+    let mut lines = Lines::of(text.trim_start_matches('\u{feff}'));
     let record = match lines.first_word() {
         Some("job") => Record::Job(Box::new(job::made(&mut lines)?)),
         Some("plan") => Record::Plan(Box::new(plan::made(&mut lines)?)),
@@ -42,9 +42,12 @@ pub fn made(text: &str) -> Result<Record, Mistake> {
     Ok(record)
 }
 
+/// The column in which comments begin.
+const COMMENT_AT: usize = 38;
+
 /// A line of text, with a comment at its right.
 fn commented(line: &str, comment: &str) -> String {
-    format!("{line:<38}# {comment}\n")
+    format!("{line:<COMMENT_AT$}# {comment}\n")
 }
 
 /// The comment below a heading that nothing follows.

@@ -13,7 +13,7 @@ impl Random {
             .0
             .wrapping_mul(6364136223846793005)
             .wrapping_add(1442695040888963407);
-        least + ((self.0 >> 33) % u64::from(most - least + 1)) as u16
+        least + ((self.0 >> 33) % (u64::from(most - least) + 1)) as u16
     }
 
     fn job(&mut self) -> Job {
@@ -49,8 +49,11 @@ impl Random {
 
     fn add_types(&mut self, job: &mut Job) {
         job.m = self.within(0, 8);
+        let mut spare = INST_CELLS as u16 - job.m;
         for unit in job.types() {
-            [job.costs[unit], job.copies[unit]] = [self.within(0, u16::MAX - 1), self.within(1, 2)];
+            let more = self.within(0, spare.min(6));
+            spare -= more;
+            [job.costs[unit], job.copies[unit]] = [self.within(0, u16::MAX), 1 + more];
             for cell in KINDS * unit..KINDS * (unit + 1) {
                 if self.within(0, 1) == 1 {
                     job.times[cell] = self.within(1, 1023);
@@ -124,7 +127,7 @@ fn mistakes_are_told_with_their_line() {
         ),
         (
             JOB.replace("cost 10", "cost 70000"),
-            "line 8: 70000 is more than 65535, the most of any number",
+            "line 8: `70000` is more than 65535, the most of any number",
         ),
         (
             JOB.replace("copies 2", "copies"),
