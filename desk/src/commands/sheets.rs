@@ -77,23 +77,21 @@ pub fn make(given: &Given, out: &mut dyn Write) -> Result<Status, Trouble> {
 }
 
 pub fn pack(given: &Given, out: &mut dyn Write) -> Result<Status, Trouble> {
-    let files: Vec<&Path> = given.files().collect();
-    let (job, plan, note) = match files[..] {
-        [job, plan, note] => (job, files::plan(plan)?.bytes, note),
-        [job, note, ..] => (job, Vec::new(), note),
-        _ => return Ok(Status::Failed),
+    let last = given.files().len() - 1;
+    let plan = match last {
+        2 => files::plan(given.file(1))?.bytes,
+        _ => Vec::new(),
     };
-    let [job, note] = [files::paper(job)?.bytes, files::paper(note)?.bytes];
+    let job = files::paper(given.file(0))?.bytes;
+    let note = files::paper(given.file(last))?.bytes;
     let dossier = packed([&job, &plan, &note]);
     let dossier = dossier.map_err(|refusal| Trouble::Refused(refusal.told()))?;
     let kept = kept(given, &dossier)?;
-    let lengths = format!(
-        "job {}, plan {}, note {}",
-        job.len(),
-        plan.len(),
-        note.len()
-    );
-    writeln!(out, "written, {} bytes{kept}: {lengths}", dossier.len())?;
+    let [whole, job, plan, note] = [dossier, job, plan, note].map(|paper| paper.len());
+    writeln!(
+        out,
+        "written, {whole} bytes{kept}: job {job}, plan {plan}, note {note}"
+    )?;
     Ok(Status::Good)
 }
 
