@@ -243,33 +243,25 @@ pub fn check_dossier(dossier: &[u8]) -> Result<Checked, Refusal> {
 #[cfg(test)]
 mod tests {
     use super::*;
+    use crate::header;
 
-    /// The value that the header gives a name.
-    fn of_the_header(name: &str) -> usize {
-        let header = include_str!("../../include/tolmupung.h");
-        let value = header
-            .split(&format!("TOLMUPUNG_{name} = "))
-            .nth(1)
-            .unwrap();
-        value
-            .split(|c: char| !c.is_ascii_digit())
-            .next()
-            .unwrap()
-            .parse()
-            .unwrap()
+    /// Whether the header names these so, behind the words of a comment.
+    fn hold(comment: &str, wanted: &[(&str, usize)]) {
+        let named = header::named(comment);
+        for name in wanted {
+            assert!(named.contains(name), "{name:?}");
+        }
     }
 
     #[test]
     fn numbers_are_those_of_the_header() {
         let bytes = [
-            ("JOB", JOB_BYTES),
-            ("PLAN", PLAN_BYTES),
-            ("NOTE", NOTE_BYTES),
-            ("DOSSIER", DOSSIER_BYTES),
+            ("JOB_BYTES", JOB_BYTES),
+            ("PLAN_BYTES", PLAN_BYTES),
+            ("NOTE_BYTES", NOTE_BYTES),
+            ("DOSSIER_BYTES", DOSSIER_BYTES),
         ];
-        for (form, most) in bytes {
-            assert_eq!(of_the_header(&format!("{form}_BYTES")), most);
-        }
+        hold("Cells of a record's tables", &bytes);
         let outcomes = [
             ("REFUSED", REFUSED),
             ("FOUND", FOUND),
@@ -277,21 +269,18 @@ mod tests {
             ("SPENT", SPENT),
             ("CHEAPEST", CHEAPEST),
         ];
-        for (name, outcome) in outcomes {
-            assert_eq!(of_the_header(name), outcome as usize);
-        }
+        let outcomes = outcomes.map(|(name, outcome)| (name, outcome as usize));
+        hold("What an answer can be", &outcomes);
         let papers = [
-            Paper::Job,
-            Paper::Plan,
-            Paper::Note,
-            Paper::Dossier,
-            Paper::Request,
+            ("PAPER_JOB", Paper::Job),
+            ("PAPER_PLAN", Paper::Plan),
+            ("PAPER_NOTE", Paper::Note),
+            ("PAPER_DOSSIER", Paper::Dossier),
+            ("PAPER_REQUEST", Paper::Request),
         ];
-        for (name, paper) in ["JOB", "PLAN", "NOTE", "DOSSIER", "REQUEST"]
-            .iter()
-            .zip(papers)
-        {
-            assert_eq!(of_the_header(&format!("PAPER_{name}")), paper as usize);
-        }
+        hold(
+            "The paper at fault",
+            &papers.map(|(name, paper)| (name, paper as usize)),
+        );
     }
 }

@@ -5,6 +5,8 @@ mod commands;
 mod dossier;
 mod draw;
 mod files;
+#[cfg(test)]
+mod header;
 mod library;
 mod note;
 mod progress;

@@ -95,36 +95,16 @@ pub fn meaning(number: u32) -> &'static str {
 #[cfg(test)]
 mod tests {
     use super::*;
-
-    /// The numbers that the header names: lines such as `TOLMUPUNG_BITS_RUN_OUT = 1,`.
-    fn numbers_of_the_header() -> Vec<u32> {
-        let header = include_str!("../../include/tolmupung.h");
-        let after = header.split("The number of a refusal").nth(1).unwrap();
-        let list = after.split('}').next().unwrap();
-        let values = list.lines().filter_map(|line| line.split(" = ").nth(1));
-        values
-            .map(|value| {
-                value
-                    .split(|c: char| !c.is_ascii_digit())
-                    .next()
-                    .unwrap()
-                    .parse()
-                    .unwrap()
-            })
-            .collect()
-    }
+    use crate::header;
 
     #[test]
     fn every_number_of_the_header_and_no_other_has_a_meaning() {
-        let named = numbers_of_the_header();
+        let named = header::named("The number of a refusal");
         assert_eq!(named.len(), 28);
-        let unknown = meaning(0);
         for number in 0..100 {
-            assert_eq!(
-                named.contains(&number),
-                meaning(number) != unknown,
-                "{number}"
-            );
+            let has_meaning = meaning(number) != meaning(0);
+            let is_named = named.iter().any(|&(_, named)| named == number as usize);
+            assert_eq!(has_meaning, is_named, "{number}");
         }
     }
 
