@@ -3,9 +3,9 @@
  *
  * Every entry takes any bytes and any numbers, and ends. A refusal gives its number and the paper at fault,
  * and changes no output byte. Nothing here allocates, and nothing is kept between calls.
- * A pointer points to as many bytes as the length beside it says. NULL is taken for no bytes at all, whatever
- * length comes with it; the functions at the end of this header see to that, so a program that calls the
- * library's symbols without including it must not pass NULL.
+ * A pointer points to as many bytes as the length beside it says, and an output overlaps no input: neither can be tested
+ * here. NULL is taken for no bytes at all, whatever length comes with it; the functions at the end of this header see to
+ * that, so a program that calls the library's symbols without including it must not pass NULL.
  */
 #ifndef TOLMUPUNG_H
 #define TOLMUPUNG_H

@@ -151,6 +151,9 @@ complains '-o wants a stem, such as out/name' unpack none.dossier -o out/
 cp case1.dossier out/own.note
 complains 'the dossier itself would be written over; take another stem' unpack out/own.note -o out/own
 
+[ "$("$desk" check /dev/stdin < case1.dossier)" = 'cheapest 40' ] || fail 'a dossier on standard input'
+holds
+
 # several dossiers, on all cores, under names that are no words
 ends 1 'case1.dossier: cheapest 40
 empty.dossier: refused 1 10

@@ -37,18 +37,33 @@ static void layout(void)
           "the record follows the answer");
 }
 
+/* Every name of a number, an outcome, a paper and a length, against document 01. */
 static void numbers(void)
 {
-    check(TOLMUPUNG_NONE == 3 && TOLMUPUNG_CHEAPEST == 5 && TOLMUPUNG_WRITTEN == 6, "the outcomes of notes");
+    check(TOLMUPUNG_REFUSED == 0 && TOLMUPUNG_PASSED == 1 && TOLMUPUNG_FOUND == 2 && TOLMUPUNG_NONE == 3 &&
+              TOLMUPUNG_SPENT == 4 && TOLMUPUNG_CHEAPEST == 5 && TOLMUPUNG_WRITTEN == 6 && TOLMUPUNG_READ == 7,
+          "the outcomes");
+    check(TOLMUPUNG_PAPER_JOB == 0 && TOLMUPUNG_PAPER_PLAN == 1 && TOLMUPUNG_PAPER_NOTE == 2 &&
+              TOLMUPUNG_PAPER_DOSSIER == 3 && TOLMUPUNG_PAPER_REQUEST == 4,
+          "the papers");
+    check(TOLMUPUNG_JOB_BYTES == 274 && TOLMUPUNG_PLAN_BYTES == 31 && TOLMUPUNG_NOTE_BYTES == 60000 &&
+              TOLMUPUNG_DOSSIER_BYTES == 65536,
+          "the lengths");
+    check(TOLMUPUNG_BITS_RUN_OUT == 1 && TOLMUPUNG_FORM_DIFFERS == 2 && TOLMUPUNG_OUTSIDE_LIMIT == 3 &&
+              TOLMUPUNG_LINK_BROKEN == 4 && TOLMUPUNG_TYPE_BROKEN == 5 && TOLMUPUNG_FILL_BROKEN == 6 &&
+              TOLMUPUNG_RECORD_BROKEN == 7,
+          "the numbers of sheets");
+    check(TOLMUPUNG_COUNTS_DIFFER == 10 && TOLMUPUNG_ORDER_BROKEN == 11 && TOLMUPUNG_ROW_INSTANCE == 12 &&
+              TOLMUPUNG_ROW_KIND == 13 && TOLMUPUNG_ROW_UNSELECTED == 14 && TOLMUPUNG_ROW_STEP == 15 &&
+              TOLMUPUNG_PRECEDENCE_BROKEN == 16 && TOLMUPUNG_RESOURCE_BROKEN == 17 && TOLMUPUNG_CHAIN_BROKEN == 18,
+          "the numbers of judging");
+    check(TOLMUPUNG_DISTANCE_FAR == 20 && TOLMUPUNG_MOVED_OUT == 21 && TOLMUPUNG_OUTPUT_SHORT == 22,
+          "the numbers of slides");
+    check(TOLMUPUNG_BUDGET_SPENT == 30 && TOLMUPUNG_NO_PLAN == 31, "the numbers of the search");
     check(TOLMUPUNG_NOTE_LONG == 40 && TOLMUPUNG_VERDICT_DIFFERS == 41 && TOLMUPUNG_SPLIT_BROKEN == 42 &&
               TOLMUPUNG_CLOSE_BROKEN == 43 && TOLMUPUNG_CHEAPER == 44,
           "the numbers of notes");
-    check(TOLMUPUNG_PAPER_NOTE == 2 && TOLMUPUNG_NOTE_BYTES == 60000, "the paper and the length of notes");
-    check(TOLMUPUNG_DISTANCE_FAR == 20 && TOLMUPUNG_MOVED_OUT == 21 && TOLMUPUNG_OUTPUT_SHORT == 22,
-          "the numbers of slides");
     check(TOLMUPUNG_LENGTHS_DIFFER == 50 && TOLMUPUNG_DOSSIER_LONG == 51, "the numbers of dossiers");
-    check(TOLMUPUNG_PAPER_DOSSIER == 3 && TOLMUPUNG_PAPER_REQUEST == 4 && TOLMUPUNG_DOSSIER_BYTES == 65536,
-          "the paper and the length of dossiers");
 }
 
 /* A job whose every used cell differs from its neighbours, so that no two tables can be taken for one another. */

@@ -211,7 +211,7 @@ pub fn overview() -> String {
         "./tolmupung COMMAND .. asks the proved library about jobs, plans, notes and dossiers.\n\n\
          {lines}\n\
          ./tolmupung COMMAND --help says what a command wants, gives and writes.\n\
-         Behind -- every word is a file's name; /dev/stdin and /dev/stdout are files too.\n\
+         After -- every word is a file's name; standard input is the file /dev/stdin.\n\
          Status 0: done, and nothing was refused. Status 1: refused, or nothing was found.\n\
          Status 2: could not be read, written or understood, and standard error says why.\n"
     )
