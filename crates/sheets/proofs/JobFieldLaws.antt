@@ -62,8 +62,8 @@ module _ (j : Job) (h : JobSound j) where
   pub types-fit : TypesFit (j .copies) (j .times) (j .intervals) (j .m)
   types-fit = record {
     copiesFit = λ y l. omega (arith, h .copies y l);
-    timesFit = λ c l. omega (arith, h .pairs c l .0);
-    intervalsFit = λ c l. omega (arith, h .pairs c l .1);
+    timesFit = λ c l. omega (arith, h .pairs c l .short);
+    intervalsFit = λ c l. omega (arith, h .pairs c l .within);
   }
 
 -- ---- one type

@@ -48,20 +48,27 @@ rising from to e h i (suc k) l q =
 
 -- ---- a type without fault
 
-pair-small : (time interval : ℕ) → pairOk time interval ≡ true → (time ≤ maxTime) × (interval ≤ maxTime)
-pair-small time interval h = ⊎-elim none some (either _ _ h)
+-- neither time nor interval is too long, and a kind that can be done has an interval
+pub record PairOk (time interval : ℕ) : Type 0 where
+  pub short : time ≤ maxTime
+  pub within : interval ≤ maxTime
+  pub able : 0 < time → 1 ≤ interval
+
+pair-says : (time interval : ℕ) → pairOk time interval ≡ true → PairOk time interval
+pair-says time interval h = ⊎-elim none some (either _ _ h)
   where
-    none : eqb time 0 && eqb interval 0 ≡ true → (time ≤ maxTime) × (interval ≤ maxTime)
+    none : eqb time 0 && eqb interval 0 ≡ true → PairOk time interval
     none e =
         let a = and-both (eqb time 0) (eqb interval 0) e in
-        (omega (arith, eqb-true time 0 (a .0)), omega (arith, eqb-true interval 0 (a .1)))
+        let z : time ≡ 0 = eqb-true time 0 (a .0) in
+        record { short = omega arith; within = omega (arith, eqb-true interval 0 (a .1)); able = λ l. omega arith }
 
-    some : leb 1 interval && leb interval time && leb time maxTime ≡ true → (time ≤ maxTime) × (interval ≤ maxTime)
+    some : leb 1 interval && leb interval time && leb time maxTime ≡ true → PairOk time interval
     some e =
         let a = and-both (leb 1 interval && leb interval time) (leb time maxTime) e in
         let b = and-both (leb 1 interval) (leb interval time) (a .0) in
         let t : time ≤ maxTime = leb-true time maxTime (a .1) in
-        (t, omega (arith, leb-true interval time (b .1)))
+        record { short = t; within = omega (arith, leb-true interval time (b .1)); able = λ l. leb-true 1 interval (b .0) }
 
 module _ (copies times intervals : List ℕ) (y : ℕ) (h : typeFault copies times intervals y ≡ 0) where
   type-rules : (copiesOk copies y ≡ true) × (allTo (pairSound times intervals y) kindCount ≡ true)
@@ -80,13 +87,13 @@ module _ (copies times intervals : List ℕ) (y : ℕ) (h : typeFault copies tim
       let some : Bool = leb 1 (cell copies y) in
       leb-true _ _ (and-both (some && few) (leb (sumTo (cell copies) y + cell copies y) maxInsts) (type-rules .0) .1)
 
-  pub none-pair : (k : ℕ) → k < kindCount → (cell times (kindCount * y + k) ≤ maxTime) × (cell intervals (kindCount * y + k) ≤ maxTime)
+  pub none-pair : (k : ℕ) → k < kindCount → PairOk (cell times (kindCount * y + k)) (cell intervals (kindCount * y + k))
   unfolding pairSound
-  none-pair k l = pair-small _ _ (allTo-each (pairSound times intervals y) kindCount (type-rules .1) k l)
+  none-pair k l = pair-says _ _ (allTo-each (pairSound times intervals y) kindCount (type-rules .1) k l)
 
 -- kind i % kindCount of type i / kindCount
 none-pairs : (copies times intervals : List ℕ) (m : ℕ) → first (typeFault copies times intervals) m ≡ 0
-    → (i : ℕ) → i < kindCount * m → (cell times i ≤ maxTime) × (cell intervals i ≤ maxTime)
+    → (i : ℕ) → i < kindCount * m → PairOk (cell times i) (cell intervals i)
 none-pairs copies times intervals m h i l =
     let e : kindCount * (i / kindCount) + i % kindCount ≡ i = omega arith in
     let z = first-none (typeFault copies times intervals) m h (i / kindCount) (omega arith) in
@@ -109,7 +116,7 @@ pub record JobSound (j : Job) : Type 0 where
   pub ascend : (i k : ℕ) → i ≤ k → k < j .e → cell (j .from) i ≤ cell (j .from) k
   pub insts : sumTo (cell (j .copies)) (j .m) ≤ maxInsts
   pub copies : (y : ℕ) → y < j .m → cell (j .copies) y ≤ maxCopies
-  pub pairs : (i : ℕ) → i < kindCount * j .m → (cell (j .times) i ≤ maxTime) × (cell (j .intervals) i ≤ maxTime)
+  pub pairs : (i : ℕ) → i < kindCount * j .m → PairOk (cell (j .times) i) (cell (j .intervals) i)
   pub unusedKinds : blank (j .kinds) (j .n) ≡ true
   pub unusedFrom : blank (j .from) (j .e) ≡ true
   pub unusedTo : blank (j .to) (j .e) ≡ true
