@@ -59,7 +59,7 @@ enum {
     TOLMUPUNG_ROW_UNSELECTED = 14,     /* the instance is not selected */
     TOLMUPUNG_ROW_STEP = 15,           /* start or finish outside 1 to T */
     TOLMUPUNG_PRECEDENCE_BROKEN = 16,
-    TOLMUPUNG_RESOURCE_BROKEN = 17,
+    TOLMUPUNG_RESOURCE_BROKEN = 17,    /* two operations hold one instance in one step */
     TOLMUPUNG_CHAIN_BROKEN = 18,
     TOLMUPUNG_DISTANCE_FAR = 20,       /* outside -31 to 31 */
     TOLMUPUNG_MOVED_OUT = 21,          /* a moved start below 1, or its finish behind T */

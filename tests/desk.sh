@@ -72,6 +72,7 @@ plan_holds() { # name, cost, visits
     same out/moved "$plan"
 }
 plan_holds case1 40 14
+plan_holds case8 10 6
 plan_holds diffeq3 150 750161
 plan_holds diffeq4 100 278130
 plan_holds diffeq5 100 464987
@@ -79,16 +80,25 @@ plan_holds diffeq6 100 3484475
 plan_holds diffeq7 70 3773133
 plan_holds wheel 222 31077
 
+drawn_refused() { # name, its job, the refusal
+    ends 1 "drawn, in out/drawn.svg
+$1.plan: $3" draw "$2" "$1.plan" -o out/drawn.svg
+    same out/drawn.svg "$1.svg"
+    parses "$1.svg"
+}
+
 # the plan of units and no operations
 empty="refused by 10, paper 1 (plan): plan's N or K differs from the job's"
 counts='0 rows and 3 selection bits for 3 operations and 3 instances'
 for command in judge tidy; do ends 1 "empty.plan: $empty: $counts" $command case1.job empty.plan; done
 ends 1 "empty.plan: $empty: $counts" slide case1.job empty.plan 1
 ends 1 "empty.plan: $empty: $counts" note case1.job empty.plan -o out/not-made
-ends 1 "drawn, in out/drawn.svg
-empty.plan: $empty" draw case1.job empty.plan -o out/drawn.svg
-same out/drawn.svg empty.svg
-parses empty.svg
+drawn_refused empty case1.job "$empty"
+
+# the unit that takes an addition while it multiplies
+busy='refused by 17, paper 1 (plan): resource: two operations on one instance must have different starts, and the later start must exceed the earlier by at least the spacing of the earlier operation'
+ends 1 "busy.plan: $busy" judge case8.job busy.plan
+drawn_refused busy case8.job "$busy"
 
 # plans slid, tidied, and not to be found
 sed 's/deadline 3/deadline 4/' case1.job.txt > out/later.job.txt

@@ -48,11 +48,11 @@ static inline int use(board *b, int inst)
     return first;
 }
 
-/* Resource, between two starts on one instance. */
+/* Resource, between two starts on one instance: the later is the earlier operation's spacing away, or further. */
 static inline int are_spaced(int start, int spacing, int other_start, int other_spacing)
 {
     int later = start - other_start;
-    return later > 0 ? later >= spacing : later < 0 && -later >= other_spacing;
+    return later > 0 ? later >= other_spacing : later < 0 && -later >= spacing;
 }
 
 /* Precedence. An operation of delay 1 may share its step with one that it feeds; whether that one may is asked below. */

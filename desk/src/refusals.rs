@@ -74,7 +74,7 @@ pub fn meaning(number: u32) -> &'static str {
         14 => "row: instance unselected",
         15 => "row: start below 1, or start + delay - 1 above T",
         16 => "precedence: for a link (a, b), b's start must be ≥ a's start + a's delay, or both starts equal and both delays 1",
-        17 => "resource: two operations on one instance must have different starts, and the later start must exceed the earlier by at least the spacing of the later operation",
+        17 => "resource: two operations on one instance must have different starts, and the later start must exceed the earlier by at least the spacing of the earlier operation",
         18 => "chain: for operations joined by successive links and all started in one step, the times plus one wire for each link must total at most the clock",
         20 => "slide distance outside -31 to 31",
         21 => "a moved start leaves its limits",

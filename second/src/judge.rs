@@ -80,8 +80,8 @@ mod tests {
     use crate::random::Random;
     use crate::refusal::Paper;
     use crate::samples::{
-        empty_job, empty_plan, full_job, job_p, plan_of, plan_of_case_1, plan_of_size,
-        unit_for_one_kind,
+        empty_job, empty_plan, full_job, job_of_case_8, job_p, plan_of, plan_of_case_1,
+        plan_of_size, unit_for_one_kind,
     };
 
     /// The cost, or the number of a refusal that names the plan.
@@ -102,19 +102,6 @@ mod tests {
         job.deadline = 2;
         job.types[1] = unit_for_one_kind(1, 30, 1, 55);
         job
-    }
-
-    /// One unit; operation 0 adds, operation 1 multiplies.
-    fn job_of_case_8() -> Job {
-        let mut unit = unit_for_one_kind(0, 10, 1, 100);
-        unit.abilities[1] = unit_for_one_kind(1, 0, 0, 300).abilities[1];
-        Job {
-            kinds: vec![0, 1],
-            types: vec![unit],
-            deadline: 4,
-            clock: 100,
-            ..empty_job()
-        }
     }
 
     /// `n` operations of one kind, each on its own instance, all in step 1; no links yet.
@@ -158,11 +145,23 @@ mod tests {
     }
 
     #[test]
-    fn case_8_spacing_of_the_later_operation() {
-        let add_first = plan_of(&[1], &[(1, 0), (2, 0)]);
-        assert_eq!(verdict(&job_of_case_8(), &add_first), Err(17));
+    fn case_8_spacing_of_the_earlier_operation() {
         let multiply_first = plan_of(&[1], &[(2, 0), (1, 0)]);
-        assert_eq!(verdict(&job_of_case_8(), &multiply_first), Ok(10));
+        assert_eq!(verdict(&job_of_case_8(), &multiply_first), Err(17));
+        let add_first = plan_of(&[1], &[(1, 0), (2, 0)]);
+        assert_eq!(verdict(&job_of_case_8(), &add_first), Ok(10));
+    }
+
+    /// Case 8's unit in more steps, held for two steps by an addition: at one step less than the spacing, and at it.
+    #[test]
+    fn an_instance_is_free_behind_the_spacing_whatever_comes_then() {
+        let mut job = job_of_case_8();
+        job.deadline = 8;
+        job.types[0].abilities[0] = unit_for_one_kind(0, 0, 0, 200).abilities[0];
+        let at = |add, multiply| verdict(&job, &plan_of(&[1], &[(add, 0), (multiply, 0)]));
+        assert_eq!([at(5, 3), at(6, 3)], [Err(17), Ok(10)]);
+        assert_eq!([at(3, 4), at(3, 5)], [Err(17), Ok(10)]);
+        assert_eq!(at(3, 3), Err(17));
     }
 
     #[test]

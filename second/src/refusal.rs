@@ -110,7 +110,7 @@ impl Refusal {
             }
             Fault::Resource => {
                 "resource: two operations on one instance have equal starts, or the later start \
-                 exceeds the earlier by less than the spacing of the later operation"
+                 exceeds the earlier by less than the spacing of the earlier operation"
             }
             Fault::Chain => {
                 "chain: for operations joined by successive links and all started in one step, \

@@ -115,7 +115,8 @@ pub fn precedence_holds(job: &Job, places: &[Option<Place>]) -> bool {
 }
 
 /// Resource: two operations on one instance have different starts, and the later start exceeds the earlier by at least
-/// the spacing of the later operation.
+/// the spacing of the earlier operation. So each holds the instance for its spacing from its start on, and no two hold
+/// it in one step.
 pub fn resource_holds(places: &[Option<Place>]) -> bool {
     for (operation, one) in places.iter().enumerate() {
         for other in &places[operation + 1..] {
@@ -136,7 +137,7 @@ fn are_spaced(one: &Place, other: &Place) -> bool {
     } else {
         (other, one)
     };
-    earlier.start != later.start && later.start - earlier.start >= later.spacing
+    earlier.start != later.start && later.start - earlier.start >= earlier.spacing
 }
 
 /// Chain: for operations joined by successive links and all started in one step, two or more, the times plus one wire
@@ -223,6 +224,7 @@ pub fn cost(job: &Job, selection: &[bool]) -> u32 {
 mod tests {
     use super::*;
     use crate::samples::{empty_job, unit_for_one_kind};
+    use std::ops::RangeInclusive;
 
     /// The place of one operation that needs this time.
     fn place(time: u16, clock: u16, row: Row) -> Option<Place> {
@@ -246,6 +248,55 @@ mod tests {
             assert_eq!([place.delay, place.spacing], [delay; 2]);
             assert_eq!(place.finish(), 2 + delay - 1);
         }
+    }
+
+    /// A place on one and the same instance.
+    fn sharing((start, spacing): (u16, u16)) -> Option<Place> {
+        let row = Row { start, instance: 0 };
+        Some(Place {
+            spacing,
+            ..place(1, 1, row)?
+        })
+    }
+
+    /// Whether two operations may share an instance, each by its start and its spacing, however they are numbered.
+    fn may_share(one: (u16, u16), other: (u16, u16)) -> bool {
+        let in_both_orders =
+            [[one, other], [other, one]].map(|pair| resource_holds(&pair.map(sharing)));
+        assert_eq!(in_both_orders[0], in_both_orders[1]);
+        in_both_orders[0]
+    }
+
+    #[test]
+    fn the_spacing_of_the_earlier_operation_just_holds() {
+        for (earlier, later) in [(3, 1), (1, 3), (4, 2), (2, 4), (3, 3)] {
+            assert!(may_share((5, earlier), (5 + earlier, later)));
+            assert!(!may_share((5, earlier), (5 + earlier - 1, later)));
+        }
+    }
+
+    #[test]
+    fn equal_starts_are_refused_whatever_the_spacings() {
+        for (one, other) in every_two(1..=4) {
+            assert!(!may_share((5, one), (5, other)), "{one}, {other}");
+        }
+    }
+
+    #[test]
+    fn no_two_operations_hold_one_instance_in_one_step() {
+        let steps_held = |(start, spacing)| start..start + spacing;
+        for starts in every_two(1..=9) {
+            for spacings in every_two(1..=4) {
+                let [one, other] = [(starts.0, spacings.0), (starts.1, spacings.1)];
+                let overlap = steps_held(one).any(|step| steps_held(other).contains(&step));
+                assert_eq!(may_share(one, other), !overlap, "{one:?}, {other:?}");
+            }
+        }
+    }
+
+    fn every_two(numbers: RangeInclusive<u16>) -> impl Iterator<Item = (u16, u16)> {
+        let others = numbers.clone();
+        numbers.flat_map(move |one| others.clone().map(move |other| (one, other)))
     }
 
     #[test]

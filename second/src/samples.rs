@@ -61,6 +61,22 @@ pub fn plan_of_case_1() -> Plan {
     plan_of(&[0, 1, 1], &[(1, 2), (2, 2), (3, 1)])
 }
 
+/// One unit, held by operation 0, an addition, for one step and by operation 1, a multiplication, for three.
+pub fn job_of_case_8() -> Job {
+    let mut unit = unit_for_one_kind(0, 10, 1, 100);
+    unit.abilities[1] = Ability {
+        time: 300,
+        interval: 300,
+    };
+    Job {
+        kinds: vec![0, 1],
+        types: vec![unit],
+        deadline: 4,
+        clock: 100,
+        ..empty_job()
+    }
+}
+
 /// No operations and no types, the plan that goes with them, and a note that has nothing to prove.
 pub fn dossier_of_case_12() -> Vec<u8> {
     vec![

@@ -128,10 +128,10 @@ fn rows_are_live(job: &Job, rows: &[Row]) -> bool {
 mod tests {
     use super::*;
     use crate::every_plan::{cheapest, plans};
-    use crate::job::{Ability, Link};
+    use crate::job::Link;
     use crate::random::Random;
     use crate::samples::{
-        empty_job, empty_plan, job_p, plan_of, plan_of_case_1, unit_for_one_kind,
+        empty_job, empty_plan, job_of_case_8, job_p, plan_of, plan_of_case_1, unit_for_one_kind,
     };
     use crate::small::small_job_where;
 
@@ -218,26 +218,31 @@ mod tests {
         assert_eq!(best, Best { cost: 0, plan });
     }
 
-    /// Case 8's unit, whose multiplication wants three steps behind what comes before it: of the two orders only one
-    /// ends by step 4.
+    /// The multiplication may start one step behind the addition, the addition three steps behind the multiplication.
+    #[test]
+    fn case_8_each_operation_in_turn_placed_first() {
+        let mut job = job_of_case_8();
+        let add_first = plan_of(&[1], &[(1, 0), (2, 0)]);
+        assert_eq!(walk(&job, 100), found(10, add_first, 6));
+        job.kinds.reverse();
+        let multiply_first = plan_of(&[1], &[(1, 0), (4, 0)]);
+        assert_eq!(walk(&job, 100), found(10, multiply_first, 4));
+        job.deadline = 3;
+        assert_eq!(walk(&job, 100), Searched::None { visits: 2 });
+    }
+
+    /// Case 8's unit, where both operations take three steps, and operation 1 holds it for the first of them alone: of
+    /// the two orders only one ends by step 4.
     #[test]
     fn the_operation_of_the_higher_number_may_come_first() {
-        let mut unit = unit_for_one_kind(0, 10, 1, 100);
-        unit.abilities[1] = Ability {
-            time: 300,
-            interval: 300,
-        };
-        let mut job = Job {
-            kinds: vec![0, 1],
-            types: vec![unit],
-            deadline: 4,
-            clock: 100,
-            ..empty_job()
-        };
-        let multiply_first = plan_of(&[1], &[(2, 0), (1, 0)]);
-        assert_eq!(walk(&job, 100), found(10, multiply_first, 6));
+        let mut job = job_of_case_8();
+        let abilities = &mut job.types[0].abilities;
+        abilities[0] = abilities[1];
+        abilities[1].interval = 100;
+        let higher_first = plan_of(&[1], &[(2, 0), (1, 0)]);
+        assert_eq!(walk(&job, 100), found(10, higher_first, 4));
         job.links = vec![Link { from: 0, to: 1 }];
-        assert_eq!(walk(&job, 100), Searched::None { visits: 5 });
+        assert_eq!(walk(&job, 100), Searched::None { visits: 3 });
     }
 
     #[test]

@@ -17,10 +17,11 @@ use Rattle.sheets.specs.Limits.{opCells, instCells, typeCells, maxSteps}
 use Rattle.sheets.specs.declared.Job.{Job}
 use Rattle.sheets.proofs.JobRoundTrip.{job-sound}
 use Rattle.sheets.proofs.RecordLaws.{JobSound}
-use Rattle.rules.specs.Model.{behind, instCount, typeAt, typesIn, unitCells}
+use Rattle.rules.specs.Model.{behind, instCount, typeAt, typesIn, timeOf, spacingOf, unitCells, unitTable}
 use Rattle.rules.specs.Rules.{rowFault, chainsOk}
 use Rattle.rules.specs.Meets.{Link, RunsFit}
 use Rattle.rules.proofs.ChainRule.{chain-rule}
+use Rattle.rules.proofs.ModelLaws.{unit-cell, able-holds}
 use Rattle.rules.proofs.RuleLaws.{none-row, row-none}
 use Rattle.placing.specs.declared.Board.{Board}
 use Rattle.placing.specs.Board.{unit, lastStart, lastAt, lastTable, nearerIf, nearer, nearest, nearCells, nearAt, nearTable, nearOf, linked, Leads, boardOf, OfJob, WasRead}
@@ -274,6 +275,17 @@ module _ (b : Board) (of : OfJob b) where
       let e : unit (b .lasts) o i ≡ lastStart (b .t) (unit (b .times) o i) (unit (b .delays) o i) =
       rw lasts-is (last-cell (b .t) (b .times) (b .delays) o i (omega (arith, few-ops)) (omega (arith, few-insts))) in
       rw e (last-rule (b .k) (b .t) i (unit (b .times) o i) s (unit (b .delays) o i) li h)
+
+  -- ---- spacings: an operation that an instance can do holds it for a step or more
+
+  pub board-holds : (o i : ℕ) → o < b .n → i < b .k → 0 < unit (b .times) o i → 1 ≤ unit (b .spacings) o i
+  unfolding boardOf
+  board-holds o i lo li h =
+      let j = of .job in
+      let few : o < opCells = omega (arith, few-ops) in
+      let narrow : i < instCells = omega (arith, few-insts) in
+      let able : 0 < unit (unitTable (timeOf j)) o i = rw (of .is) at h in
+      rw (of .is) (rw (unit-cell (spacingOf j) o i few narrow) (able-holds j board-sound o i (rw (unit-cell (timeOf j) o i few narrow) at able)))
 
   -- ---- chains
 

@@ -19,12 +19,13 @@ use Rattle.sheets.specs.Limits.{opCells}
 use Rattle.rules.specs.Model.{rowAt, rowTable}
 use Rattle.rules.specs.Rules.{finish, rowFault, placed, joins, precedes, linkOk, precedenceOk, apart, shareOk, besideOk, resourceOk, chainsOk}
 use Rattle.rules.specs.Meets.{Link, Joined, AllIn, runTotal, RunsFit}
-use Rattle.rules.proofs.RuleLaws.{precedes-says}
+use Rattle.rules.proofs.RuleLaws.{precedes-says, apart-swap}
 use Rattle.placing.specs.declared.Board.{Board}
 use Rattle.placing.specs.Board.{unit, linked, OfJob}
 use Rattle.placing.specs.Placing.{Placing, rowOk, live}
 use Rattle.placing.specs.Options.{put}
 use Rattle.placing.specs.Fitting.{inTurnIf, inTurn, pairOk, linkFits, linksFit, shareFits, sharesFit, chainedAt, chained, chainsFit, fits, endOf, firstStart}
+use Rattle.placing.proofs.FitSteps.{share-empty}
 use Rattle.placing.proofs.BoardLaws.{Joining, few-ops, link-ends, joining-below, joining-apart, linked-says, says-linked, last-says, runs-rule, link-joins, link-rises, link-of, wire-is, clock-is}
 
 -- ---- tests
@@ -32,17 +33,6 @@ use Rattle.placing.proofs.BoardLaws.{Joining, few-ops, link-ends, joini
 and-true : (a : Bool) → a && true ≡ a
 and-true true = refl
 and-true false = refl
-
-or-swap : (a b d : Bool) → a || b || d ≡ a || d || b
-or-swap true b d = refl
-or-swap false true true = refl
-or-swap false true false = refl
-or-swap false false true = refl
-or-swap false false false = refl
-
-or-true : (a : Bool) → a || true ≡ true
-or-true true = refl
-or-true false = refl
 
 -- all of four
 and-four : (a b c d : Bool) → a && b && c && d ≡ true → (a ≡ true) × (b ≡ true) × (c ≡ true) × (d ≡ true)
@@ -255,10 +245,10 @@ module _ (b : Board) (of : OfJob b) (p : Placing) (ls : length (p .starts) ≡ o
   share-before o l =
       let d : o ≡ op → ⊥ = λ e. omega arith in
       rw (inst-here, inst-there o d, start-here, start-there o d, row-here spacing, row-other spacing o d (omega arith), lt-ltb 0 s begun, and-true (placed (p .starts) o))
-      (go (ℕ-discrete (inst o) i))
+      (rw (apart-swap (start o) (spacing o (inst o)) s (spacing op i)) (go (ℕ-discrete (inst o) i)))
     where
       on : ℕ → Bool
-      on k = not (eqb (inst o) i) || not (placed (p .starts) o) || apart (start o) s (spacing op i) || apart s (start o) (spacing o k)
+      on k = not (eqb (inst o) i) || not (placed (p .starts) o) || apart s (spacing op i) (start o) (spacing o k)
 
       go : Dec (inst o ≡ i) → on (inst o) ≡ on i
       go (yes e) = ap on e
@@ -270,17 +260,10 @@ module _ (b : Board) (of : OfJob b) (p : Placing) (ls : length (p .starts) ≡ o
       let d : o ≡ op → ⊥ = λ e. omega arith in
       rw (inst-here, inst-there o d, start-here, start-there o d, row-here spacing, row-other spacing o d lt, lt-ltb 0 s begun) (go (ℕ-discrete (inst o) i))
     where
-      unplaced : Bool
-      unplaced = not (placed (p .starts) o)
-
-      mine : Bool
-      mine = apart (start o) s (spacing op i)
-
-      theirs : ℕ → Bool
-      theirs k = apart s (start o) (spacing o k)
-
-      go : Dec (inst o ≡ i) → not (eqb i (inst o)) || unplaced || theirs (inst o) || mine ≡ not (eqb (inst o) i) || unplaced || mine || theirs i
-      go (yes e) = rw e (or-swap (not (eqb i i) || unplaced) (theirs i) mine)
+      go : Dec (inst o ≡ i)
+          → not (eqb i (inst o)) || not (placed (p .starts) o) || apart s (spacing op i) (start o) (spacing o (inst o))
+          ≡ not (eqb (inst o) i) || not (placed (p .starts) o) || apart s (spacing op i) (start o) (spacing o i)
+      go (yes e) = rw e
       go (no d) = rw (ne-eqb (inst o) i d, ne-eqb i (inst o) (λ e. d (sym e)))
 
   share-same : (c a : ℕ) → (c ≡ op → ⊥) → (a ≡ op → ⊥) → shareAt b next c a ≡ shareAt b p c a
@@ -429,17 +412,13 @@ module _ (b : Board) (of : OfJob b) (p : Placing) (ls : length (p .starts) ≡ o
         let n = linked-says b of op o lo (omega (arith, few-ops b of)) e in
         both-and (turn o) _ (precede-turn h o n) (pair-ok k o n)))
 
-    share-empty : (o : ℕ) → start o ≡ 0 → share o ≡ true
-    unfolding shareFits
-    share-empty o e = rw (e, or-true (not (eqb (inst o) i)))
-
     shares-each : shares ≡ true → (o : ℕ) → share o ≡ true
     unfolding sharesFit
     shares-each h o = go (decLt o reach)
       where
         go : Dec (o < reach) → share o ≡ true
         go (yes l) = allTo-each (shareFits (b .spacings) (p .starts) (p .insts) s i (spacing op i)) reach h o l
-        go (no l) = share-empty o (empty o (omega arith))
+        go (no l) = share-empty _ _ _ _ _ _ o (empty o (omega arith))
 
     each-shares : resource b next ≡ true → shares ≡ true
     unfolding sharesFit
@@ -447,7 +426,7 @@ module _ (b : Board) (of : OfJob b) (p : Placing) (ls : length (p .starts) ≡ o
         each-allTo (shareFits (b .spacings) (p .starts) (p .insts) s i (spacing op i)) reach (λ o l. go o l (ℕ-discrete o op))
       where
         go : (o : ℕ) → o < reach → Dec (o ≡ op) → share o ≡ true
-        go o l (yes e) = share-empty o (rw e free)
+        go o l (yes e) = share-empty _ _ _ _ _ _ o (rw e free)
         go o l (no d) = resource-share h o (omega arith) d
 
     unchained : chain ≡ false → (o : ℕ) → Near o → start o ≡ s → ⊥

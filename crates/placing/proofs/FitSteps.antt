@@ -6,12 +6,12 @@ use mathlib.Core.List.{List}
 use native.Mathlib.Decide.{decLt}
 use native.Mathlib.Omega.{arith}
 use borrow.Author.Tests.{le-leb, lt-leb, lt-ltb, le-ltb, eq-eqb, ne-eqb}
-use lib.Dec.{ltb, leb}
+use lib.Dec.{ltb, leb, eqb}
 use Rattle.basics.specs.Counting.{allTo, anyTo, only}
 use Rattle.basics.specs.Tables.{cell}
 use Rattle.basics.proofs.CountLaws.{allTo-fewer, allTo-further, allTo-not, anyTo-none, none-anyTo, some-anyTo, both-and}
 use Rattle.sheets.specs.Limits.{opCells}
-use Rattle.rules.specs.Rules.{placed, finish, precedes, apart}
+use Rattle.rules.specs.Rules.{finish, precedes, apart}
 use Rattle.placing.specs.Board.{unit, lastStart, nearOf, linked, Leads}
 use Rattle.placing.specs.Fitting.{inTurnIf, inTurn, pairOk, linkFits, linksFit, shareFits, sharesFit, chainedAt, chained, chainsFit, freeAt, linksHold, fits, endOf, firstStart}
 
@@ -44,16 +44,23 @@ module _ (times starts insts : List ℕ) (wire clock s time o : ℕ) where
 
 -- ---- one that shares the instance
 
+or-true : (a : Bool) → a || true ≡ true
+or-true true = refl
+or-true false = refl
+
 module _ (spacings starts insts : List ℕ) (s i spacing o : ℕ) where
   pub share-out : {inst : ℕ} → inst ≡ cell insts o → (inst ≡ i → ⊥) → true ≡ shareFits spacings starts insts s i spacing o
   unfolding shareFits
   share-out {inst} e z = rw (← e, ne-eqb inst i z)
 
-  pub share-in : {inst : ℕ} {r : Bool} → inst ≡ cell insts o → inst ≡ i
-      → r ≡ (not (placed starts o) || apart (cell starts o) s spacing || apart s (cell starts o) (unit spacings o i))
-      → r ≡ shareFits spacings starts insts s i spacing o
+  pub share-empty : cell starts o ≡ 0 → shareFits spacings starts insts s i spacing o ≡ true
   unfolding shareFits
-  share-in {inst} e z p = rw (← e, eq-eqb inst i z) p
+  share-empty e = rw (e, or-true (not (eqb (cell insts o) i)))
+
+  pub share-in : {inst start : ℕ} {r : Bool} → inst ≡ cell insts o → inst ≡ i → start ≡ cell starts o → (start ≡ 0 → ⊥)
+      → r ≡ apart s spacing start (unit spacings o i) → r ≡ shareFits spacings starts insts s i spacing o
+  unfolding shareFits
+  share-in {inst} {start} e z q n p = rw (← e, eq-eqb inst i z, ← q, lt-ltb 0 start (omega (arith, n))) p
 
 -- ---- the last step to start in
 

@@ -218,7 +218,7 @@ module _ (sheet : List ℕ) (j : Job) (read : readJob sheet ≡ record { answer 
           resource = λ a b la lb d i l.
               let e = same a la in
               let f = same b lb in
-              rw (e .0, f .0, f .1) (m .resource a b la lb d (sym (e .1) ∙ i ∙ f .1) (rw (e .0, f .0) at l));
+              rw (e .0, e .1, f .0) (m .resource a b la lb d (sym (e .1) ∙ i ∙ f .1) (rw (e .0, f .0) at l));
           chains = runs-again (m .chains);
         }
 

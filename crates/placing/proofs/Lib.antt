@@ -6,6 +6,7 @@ pub mod PartLaws
 pub mod SelectionLaws
 pub mod OptionLaws
 pub mod FitLaws
+pub mod HeldRows
 pub mod RowLaws
 pub mod ReadyLaws
 pub mod TurnLaws

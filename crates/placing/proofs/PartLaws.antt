@@ -2,25 +2,25 @@
 -- placed is live (`none-live`).
 use Prim.Native.Nat.{ℕ, _≤_}
 use mathlib.Core.Path.{_≡_, refl, sym, ap, _∙_, subst}
-use mathlib.Core.Bool.{Bool, true, false, not, _&&_, _||_}
+use mathlib.Core.Bool.{Bool, true, false, _&&_}
 use mathlib.Core.List.{List, [], _∷_}
 use mathlib.Core.Logic.{inl, inr, ⊎-elim}
 use native.Mathlib.Decide.{ℕ-discrete, decLt}
 use native.Mathlib.Omega.{arith}
 use borrow.Author.Tests.{ltb-true}
-use lib.Dec.{eqb}
 use lib.Seq.{getD-set-other}
 use Rattle.basics.specs.Counting.{allTo}
 use Rattle.basics.specs.Tables.{cell}
-use Rattle.basics.proofs.CountLaws.{and-both, both-and, either-left, either-right, asked, where-asked, allTo-each, each-allTo, anyTo-some, some-anyTo}
+use Rattle.basics.proofs.CountLaws.{and-both, both-and, asked, where-asked, allTo-each, each-allTo, anyTo-some, some-anyTo}
 use Rattle.basics.proofs.TableLaws.{cell-cells, cell-unused}
 use Rattle.sheets.specs.Limits.{opCells}
 use Rattle.sheets.specs.declared.Job.{Job}
 use Rattle.sheets.proofs.RecordLaws.{JobSound}
 use Rattle.rules.specs.Meets.{AllIn, runTotal, RunsFit}
 use Rattle.rules.specs.Model.{rowAt, rowTable}
-use Rattle.rules.specs.Rules.{placed, joins, linkOk, precedenceOk, apart, shareOk, besideOk, resourceOk, sameStep, runOk, runOkAt, chainsOk}
+use Rattle.rules.specs.Rules.{placed, joins, linkOk, precedenceOk, shareOk, besideOk, resourceOk, sameStep, runOk, runOkAt, chainsOk}
 use Rattle.rules.proofs.ChainRule.{chain-rule}
+use Rattle.rules.proofs.RuleLaws.{share-unplaced}
 use Rattle.placing.specs.declared.Board.{Board}
 use Rattle.placing.specs.Board.{unit, boardOf, OfJob}
 use Rattle.placing.specs.Placing.{Placing, rowOk, live, wants, needed, cost, Part, neededIn}
@@ -111,11 +111,7 @@ module _ (p q : Placing) (part : Part p q) where
           let v = placed-same x (a .0) in
           let w = placed-same y (a .1) in
           rw (v .0, w .0, v .1, w .1, row-same spacing (p .insts) (q .insts) x (v .1), row-same spacing (p .insts) (q .insts) y (w .1)) h
-      go false t =
-          let other : Bool = not (eqb (cell (p .insts) x) (cell (p .insts) y)) in
-          let unplaced : Bool = not (placed (p .starts) x && placed (p .starts) y) in
-          let first : Bool = apart (cell (p .starts) x) (cell (p .starts) y) (cell (rowTable spacing (p .insts)) y) in
-          either-left (other || unplaced || first) _ (either-left (other || unplaced) first (either-right other unplaced (rw t)))
+      go false t = share-unplaced (p .starts) (p .insts) (rowTable spacing (p .insts)) y x t
 
   -- ---- chains: a run of the part is one of the whole
 
@@ -187,13 +183,9 @@ unfolding joins
 none-joins from to l h = none-unplaced (cell from l) (and-both (placed (none .starts) (cell from l)) (placed (none .starts) (cell to l)) h .0)
 
 none-share : (spacings : List ℕ) (y x : ℕ) → shareOk (none .starts) (none .insts) spacings y x ≡ true
-unfolding shareOk
 none-share spacings y x =
-    let other : Bool = not (eqb (cell (none .insts) x) (cell (none .insts) y)) in
-    let both : Bool = placed (none .starts) x && placed (none .starts) y in
-    let first : Bool = apart (cell (none .starts) x) (cell (none .starts) y) (cell spacings y) in
-    let off : both ≡ false = fails both (λ t. none-unplaced x (and-both (placed (none .starts) x) (placed (none .starts) y) t .0)) in
-    either-left (other || not both || first) _ (either-left (other || not both) first (either-right other (not both) (ap not off)))
+    share-unplaced (none .starts) (none .insts) spacings y x
+    (fails (placed (none .starts) x && placed (none .starts) y) (λ t. none-unplaced x (and-both (placed (none .starts) x) (placed (none .starts) y) t .0)))
 
 pub none-live : (b : Board) → OfJob b → live b none ≡ true
 unfolding rowOk precedenceOk linkOk resourceOk besideOk chainsOk runOk sameStep

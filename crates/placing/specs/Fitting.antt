@@ -42,8 +42,7 @@ unfoldable pub shareFits : List ℕ → List ℕ → List ℕ → ℕ → ℕ �
 shareFits spacings starts insts s i spacing o =
     not (eqb (cell insts o) i)
     || not (placed starts o)
-    || apart (cell starts o) s spacing
-    || apart s (cell starts o) (unit spacings o i)
+    || apart s spacing (cell starts o) (unit spacings o i)
 
 unfoldable pub sharesFit : List ℕ → List ℕ → List ℕ → ℕ → ℕ → ℕ → ℕ → Bool
 sharesFit spacings starts insts reach s i spacing = allTo (shareFits spacings starts insts s i spacing) reach

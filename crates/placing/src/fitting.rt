@@ -12,7 +12,7 @@ use crate::boards::NEAR_TABLE;
 use basics::cell;
 use rules::chains::chains_ok;
 use rules::precedence::precedes;
-use rules::resource::apart;
+use rules::resource::spaced;
 use rules::rows::finish;
 use sheets::limits::*;
 
@@ -129,7 +129,10 @@ fn share_fits<'a>(
         return true;
     }
     let start = starts[o];
-    !(0 < start) | apart(start, s, spacing) | apart(s, start, unit_at(spacings, o, i))
+    if start == 0 {
+        return true;
+    }
+    spaced(s, spacing, start) | spaced(start, unit_at(spacings, o, i), s)
 }
 
 // The same of each operation placed.

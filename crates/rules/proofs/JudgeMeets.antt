@@ -29,7 +29,7 @@ use Rattle.rules.specs.declared.Judged.the-variants.{Passed, Refused}
 use Rattle.rules.specs.declared.Timing.{Timing}
 use Rattle.rules.specs.Rules.{rowFaultAt, rowsFault, joins, placed, linkOk, precedenceOk, resourceOk, chainsOk}
 use Rattle.rules.specs.Judge.{countsFault, placingFault, faultWith, judgeFault, planCost, passOr, judgedWith, judged, ifRead, judgeWith, judge}
-use Rattle.rules.specs.Meets.{Link, Joined, runTotal, RunsFit, start, inst, time, delay, spacing, Row, Meets, Passes, maxCost}
+use Rattle.rules.specs.Meets.{Link, Joined, runTotal, RunsFit, start, inst, time, delay, Row, Resource, Meets, Passes, maxCost}
 use Rattle.rules.proofs.ChainRule.{chain-rule}
 use Rattle.rules.proofs.JudgeLaws.{counts-agree}
 use Rattle.rules.proofs.ModelLaws.{types-rise}
@@ -120,12 +120,11 @@ module _ (j : Job) (p : Plan) (sound : JobSound j) where
         let q = precedes-says _ _ _ _ (asked (placed (p .starts) a && placed (p .starts) b) _ both (rw (n .leaves, n .enters) at t)) in
         rw (row-cell (delayOf j) a (w .0), row-cell (delayOf j) b (w .1)) at q
 
-    resource-meets : resourceOk (j .n) (p .starts) (p .insts) (timing .spacings) ≡ true → (a b : ℕ) → a < j .n → b < j .n → (a ≡ b → ⊥) → inst j p a ≡ inst j p b → start j p a ≤ start j p b
-        → (start j p a < start j p b) × (start j p a + spacing j p b ≤ start j p b)
+    resource-meets : resourceOk (j .n) (p .starts) (p .insts) (timing .spacings) ≡ true → Resource j p
     unfolding timingIn
     resource-meets h a b la lb d e l =
         let w = resource-says (p .starts) (p .insts) (timing .spacings) (j .n) begun h a b la lb d e l in
-        (w .0, subst (λ (x : ℕ). start j p a + x ≤ start j p b) (row-cell (spacingOf j) b lb) (w .1))
+        (w .0, subst (λ (x : ℕ). start j p a + x ≤ start j p b) (row-cell (spacingOf j) a la) (w .1))
 
   says-precedence : ((a b : ℕ) → Link j a b → (start j p a + delay j p a ≤ start j p b) ⊎ ((start j p a ≡ start j p b) × (delay j p a ≡ 1) × (delay j p b ≡ 1)))
       → precedenceOk (j .from) (j .to) (j .e) (p .starts) (timing .delays) ≡ true
@@ -139,13 +138,12 @@ module _ (j : Job) (p : Plan) (sound : JobSound j) where
       says-precedes _ _ _ _ (ltb-true 0 (start j p a) (and-both (placed (p .starts) a) (placed (p .starts) b) both .0)) (rw (row-cell (delayOf j) a (omega arith), row-cell (delayOf j) b (w .1)) (h a b (record { number = l; below = q; leaves = refl; enters = refl })))))
 
   says-resource-meets : ((o : ℕ) → o < j .n → 1 ≤ start j p o)
-      → ((a b : ℕ) → a < j .n → b < j .n → (a ≡ b → ⊥) → inst j p a ≡ inst j p b → start j p a ≤ start j p b → (start j p a < start j p b) × (start j p a + spacing j p b ≤ start j p b))
-      → resourceOk (j .n) (p .starts) (p .insts) (timing .spacings) ≡ true
+      → Resource j p → resourceOk (j .n) (p .starts) (p .insts) (timing .spacings) ≡ true
   unfolding timingIn
   says-resource-meets begun h =
       says-resource (p .starts) (p .insts) (timing .spacings) (j .n) begun (λ a b la lb d e l.
       let w = h a b la lb d e l in
-      (w .0, subst (λ (x : ℕ). start j p a + x ≤ start j p b) (sym (row-cell (spacingOf j) b lb)) (w .1)))
+      (w .0, subst (λ (x : ℕ). start j p a + x ≤ start j p b) (sym (row-cell (spacingOf j) a la)) (w .1)))
 
   -- ---- runs: their operations are among the first n, and the table has their times
 

@@ -1,5 +1,6 @@
 pub mod ModelLaws
 pub mod RuleLaws
+pub mod HeldLaws
 pub mod ChainLaws
 pub mod ChainRule
 pub mod JudgeLaws

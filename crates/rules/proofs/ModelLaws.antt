@@ -3,7 +3,7 @@ use Prim.Native.Nat.{ℕ, zero, suc, _+_, _-_, _*_, _/_, _%_, _<_, _≤_, min}
 use mathlib.Core.Path.{_≡_, refl, sym, ap, _∙_}
 use mathlib.Core.List.{List}
 use native.Mathlib.Decide.{decLt}
-use native.Mathlib.Nat.{div-le-of-le-mul, div-eq-of-lt, div-zero}
+use native.Mathlib.Nat.{div-le-of-le-mul, div-eq-of-lt, div-zero, le-div-iff-mul-le}
 use native.Mathlib.Omega.{arith}
 use borrow.Author.Tests.{le-leb, lt-leb}
 use lib.Dec.{leb}
@@ -11,10 +11,11 @@ use lib.ListN.{length, List·getD-eq-default}
 use Rattle.basics.specs.Counting.{sumTo, only}
 use Rattle.basics.specs.Tables.{cell, cells}
 use Rattle.basics.proofs.CountLaws.{sumTo-below, sumTo-rises}
-use Rattle.basics.proofs.TableLaws.{length-cells, cell-cells, cell-unused, cells-cong}
-use Rattle.sheets.specs.Limits.{instCells, opCells, pairCells}
+use Rattle.basics.proofs.TableLaws.{length-cells, cell-cells, cell-unused, cells-cong, blank-each}
+use Rattle.sheets.specs.Limits.{kindCount, instCells, opCells, pairCells}
 use Rattle.sheets.specs.declared.Job.{Job}
-use Rattle.rules.specs.Model.{behind, typeAt, typesIn, typesOf, spanOf, inSteps, stepsAt, rowAt, rowTable, timingIn, unitCells, unitAt, unitTable, tablesOf}
+use Rattle.sheets.proofs.RecordLaws.{JobSound}
+use Rattle.rules.specs.Model.{behind, typeAt, typesIn, typesOf, typeOf, spanOf, timeOf, intervalOf, spacingOf, inSteps, stepsAt, rowAt, rowTable, timingIn, unitCells, unitAt, unitTable, tablesOf}
 use Rattle.rules.specs.declared.Tables.{Tables}
 use Rattle.rules.specs.declared.Timing.{Timing}
 
@@ -84,6 +85,28 @@ rounded-small zero (suc b) =
     let d : b / suc b ≡ 0 = div-eq-of-lt (omega arith) in
     rw e (omega arith)
 rounded-small (suc a) (suc b) = div-le-of-le-mul (suc b) (omega arith)
+
+rounded-some : (a b : ℕ) → 1 ≤ a → 1 ≤ b → 1 ≤ (a + (b - 1)) / b
+rounded-some a b l m = le-div-iff-mul-le m .1 (omega arith)
+
+-- an operation that an instance can do holds it for a step or more
+pub able-holds : (j : Job) → JobSound j → (o i : ℕ) → 0 < timeOf j o i → 1 ≤ spacingOf j o i
+unfolding inSteps
+able-holds j sound o i l = rounded-some (intervalOf j o i) (j .clock) (go (decLt place (kindCount * j .m))) (sound .counts .some)
+  where
+    place : ℕ
+    place = kindCount * typeOf j i + cell (j .kinds) o
+
+    unused : kindCount * j .m ≤ place → cell (j .times) place ≡ 0
+    unused q =
+        elim (decLt place (length (j .times))) [
+          | yes r ↦ blank-each (j .times) (kindCount * j .m) (sound .unusedTimes) place q r
+          | no r ↦ List·getD-eq-default (j .times) 0 (omega arith)
+        ]
+
+    go : Dec (place < kindCount * j .m) → 1 ≤ cell (j .intervals) place
+    go (yes q) = sound .pairs place q .able l
+    go (no q) = absurd (omega (arith, unused (omega arith)))
 
 -- ---- a table in steps
 

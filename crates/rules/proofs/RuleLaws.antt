@@ -13,12 +13,18 @@ use Rattle.basics.specs.Tables.{cell}
 use Rattle.basics.proofs.CountLaws.{and-both, both-and, either, either-left, either-right, allTo-each, each-allTo}
 use Rattle.basics.proofs.FaultLaws.{orElse-none, none-orElse, unless-none, none-unless}
 use Rattle.rules.specs.Selection.{selected, orderAt, orderOk}
-use Rattle.rules.specs.Rules.{finish, rowFault, placed, precedes, apart, shareOk, besideOk, resourceOk}
+use Rattle.rules.specs.Rules.{finish, rowFault, placed, precedes, spaced, apart, shareOk, besideOk, resourceOk}
 
 -- ---- tests
 
 not-off : {a : Bool} → a ≡ false → not a ≡ true
 not-off h = rw h
+
+or-comm : (a b : Bool) → a || b ≡ b || a
+or-comm true true = refl
+or-comm true false = refl
+or-comm false true = refl
+or-comm false false = refl
 
 not-both : (a : Bool) → a ≡ true → not a ≡ true → ⊥
 not-both true e h = let z : _≡_ {A = ℕ} 0 1 = cc in omega arith
@@ -128,75 +134,110 @@ module _ (start delay start' delay' : ℕ) where
       ⊎-elim (λ a. either-left _ _ (lt-ltb (finish start delay) start' (omega arith)))
       (λ a. either-right (ltb (finish start delay) start') _ (both-and _ _ (both-and _ _ (eq-eqb start start' (a .0)) (eq-eqb delay 1 (a .1))) (eq-eqb delay' 1 (a .2)))) h
 
--- ---- resource: of two placed on one instance, the one that does not start later
+-- ---- resource: of two placed on one instance, the later start exceeds the earlier by at least the spacing of the earlier
 
-pub share-other : (starts insts spacings : List ℕ) (b a : ℕ) → (cell insts a ≡ cell insts b → ⊥) → true ≡ shareOk starts insts spacings b a
-unfolding shareOk
-share-other starts insts spacings b a h = rw (ne-eqb _ _ h)
+module _ (start spacing later : ℕ) where
+  spaced-says : spaced start spacing later ≡ true → (start < later) × (start + spacing ≤ later)
+  spaced-says h = let w = and-both (ltb start later) (leb (start + spacing) later) h in (ltb-true start later (w .0), leb-true (start + spacing) later (w .1))
 
-pub share-same : (starts insts spacings : List ℕ) (b a : ℕ) (r : Bool) → cell insts a ≡ cell insts b
-    → r ≡ (not (placed starts a && placed starts b) || apart (cell starts a) (cell starts b) (cell spacings b) || apart (cell starts b) (cell starts a) (cell spacings a))
-    → r ≡ shareOk starts insts spacings b a
-unfolding shareOk
-share-same starts insts spacings b a r h e = e ∙ sym (rw (eq-eqb _ _ h))
+  says-spaced : (start < later) × (start + spacing ≤ later) → spaced start spacing later ≡ true
+  says-spaced h = both-and _ _ (lt-ltb start later (h .0)) (le-leb (start + spacing) later (h .1))
 
-module _ (starts insts spacings : List ℕ) (n : ℕ) (at : (o : ℕ) → o < n → 1 ≤ cell starts o) where
-  abbrev start : ℕ → ℕ
-  start o = cell starts o
+-- where the second of two does not start earlier, it follows the first, by the first's spacing or more
+abbrev pub Follows : ℕ → ℕ → ℕ → Type 0
+Follows start spacing later = start ≤ later → (start < later) × (start + spacing ≤ later)
 
-  abbrev Apart : ℕ → ℕ → Type 0
-  Apart a b = cell insts a ≡ cell insts b → start a ≤ start b → (start a < start b) × (start a + cell spacings b ≤ start b)
+module _ (start spacing start' spacing' : ℕ) where
+  pub apart-swap : apart start spacing start' spacing' ≡ apart start' spacing' start spacing
+  unfolding apart
+  apart-swap = or-comm (spaced start spacing start') (spaced start' spacing' start)
 
-  apart-says : (a b spacing : ℕ) → apart a b spacing ≡ true → (a < b) × (a + spacing ≤ b)
-  apart-says a b spacing h = let w = and-both (ltb a b) (leb (a + spacing) b) h in (ltb-true a b (w .0), leb-true (a + spacing) b (w .1))
+  pub apart-says : apart start spacing start' spacing' ≡ true → Follows start spacing start'
+  unfolding apart
+  apart-says h l =
+      ⊎-elim (spaced-says start spacing start') (λ w. absurd (omega (arith, spaced-says start' spacing' start w .0))) (either _ _ h)
 
-  says-apart : (a b spacing : ℕ) → a < b → a + spacing ≤ b → apart a b spacing ≡ true
-  says-apart a b spacing l h = both-and _ _ (lt-ltb a b l) (le-leb (a + spacing) b h)
+  pub says-apart : Follows start spacing start' → Follows start' spacing' start → apart start spacing start' spacing' ≡ true
+  unfolding apart
+  says-apart p q =
+      elim (decLt start' start) [
+        | yes l ↦ either-right (spaced start spacing start') _ (says-spaced start' spacing' start (q (omega arith)))
+        | no l ↦ either-left (spaced start spacing start') _ (says-spaced start spacing start' (p (omega arith)))
+      ]
 
-  share-says : (a b : ℕ) → a < n → b < n → shareOk starts insts spacings b a ≡ true → Apart a b × Apart b a
+module _ (starts insts spacings : List ℕ) (b a : ℕ) where
+  abbrev other : Bool
+  other = not (eqb (cell insts a) (cell insts b))
+
+  abbrev unplaced : Bool
+  unplaced = not (placed starts a && placed starts b)
+
+  abbrev rowsApart : Bool
+  rowsApart = apart (cell starts a) (cell spacings a) (cell starts b) (cell spacings b)
+
+  pub share-other : (cell insts a ≡ cell insts b → ⊥) → true ≡ shareOk starts insts spacings b a
   unfolding shareOk
-  share-says a b la lb h =
-      let other : Bool = not (eqb (cell insts a) (cell insts b)) in
-      let unplaced : Bool = not (placed starts a && placed starts b) in
-      let first : Bool = apart (start a) (start b) (cell spacings b) in
-      let second : Bool = apart (start b) (start a) (cell spacings a) in
-      let both : placed starts a && placed starts b ≡ true = both-and _ _ (lt-ltb 0 (start a) (at a la)) (lt-ltb 0 (start b) (at b lb)) in
-      let one : cell insts a ≡ cell insts b → (first ≡ true) ⊎ (second ≡ true) =
-      λ e. ⊎-elim (λ w. ⊎-elim (λ v. absurd (⊎-elim (not-both _ (eq-eqb (cell insts a) (cell insts b) e)) (not-both _ both) (either other unplaced v))) inl (either (other || unplaced) first w)) inr
-      (either (other || unplaced || first) second h) in (
-        (λ e l. ⊎-elim (λ w. apart-says _ _ _ w) (λ w. absurd (omega (arith, apart-says (start b) (start a) (cell spacings a) w .0))) (one e)),
-        (λ e l. ⊎-elim (λ w. absurd (omega (arith, apart-says (start a) (start b) (cell spacings b) w .0))) (λ w. apart-says _ _ _ w) (one (sym e))),
-      )
+  share-other h = rw (ne-eqb _ _ h)
 
-  says-share : (a b : ℕ) → Apart a b → Apart b a → shareOk starts insts spacings b a ≡ true
+  pub share-same : (r : Bool) → cell insts a ≡ cell insts b → r ≡ (unplaced || rowsApart) → r ≡ shareOk starts insts spacings b a
   unfolding shareOk
-  says-share a b p q =
-      let first : Bool = apart (start a) (start b) (cell spacings b) in
-      let other : Bool = not (eqb (cell insts a) (cell insts b)) in
-      let unplaced : Bool = not (placed starts a && placed starts b) in
+  share-same r h e = e ∙ sym (rw (eq-eqb _ _ h))
+
+  pub share-unplaced : placed starts a && placed starts b ≡ false → shareOk starts insts spacings b a ≡ true
+  unfolding shareOk
+  share-unplaced h = either-left (other || unplaced) rowsApart (either-right other unplaced (not-off h))
+
+  share-apart : shareOk starts insts spacings b a ≡ true → 1 ≤ cell starts a → 1 ≤ cell starts b → cell insts a ≡ cell insts b → rowsApart ≡ true
+  unfolding shareOk
+  share-apart h la lb e =
+      let both : placed starts a && placed starts b ≡ true = both-and _ _ (lt-ltb 0 (cell starts a) la) (lt-ltb 0 (cell starts b) lb) in
+      ⊎-elim (λ w. absurd (⊎-elim (not-both _ (eq-eqb (cell insts a) (cell insts b) e)) (not-both _ both) (either other unplaced w))) (λ w. w)
+      (either (other || unplaced) rowsApart h)
+
+  apart-share : (1 ≤ cell starts a → 1 ≤ cell starts b → cell insts a ≡ cell insts b → rowsApart ≡ true) → shareOk starts insts spacings b a ≡ true
+  unfolding shareOk
+  apart-share h =
       elim (ℕ-discrete (cell insts a) (cell insts b)) [
-        | yes e ↦
-            elim (decLt (start b) (start a)) [
-              | yes l ↦
-                  let w = q (sym e) (omega arith) in
-                  either-right (other || unplaced || first) _ (says-apart (start b) (start a) (cell spacings a) (w .0) (w .1))
-              | no l ↦
-                  let w = p e (omega arith) in
-                  either-left (other || unplaced || first) _ (either-right (other || unplaced) first (says-apart (start a) (start b) (cell spacings b) (w .0) (w .1)))
-            ]
-        | no e ↦ rw (ne-eqb (cell insts a) (cell insts b) e)
+        | yes e ↦ go e (placed starts a && placed starts b) refl
+        | no e ↦ sym (share-other e)
       ]
+    where
+      go : cell insts a ≡ cell insts b → (t : Bool) → placed starts a && placed starts b ≡ t → shareOk starts insts spacings b a ≡ true
+      go e true t =
+          let w = and-both (placed starts a) (placed starts b) t in
+          either-right (other || unplaced) rowsApart (h (ltb-true 0 (cell starts a) (w .0)) (ltb-true 0 (cell starts b) (w .1)) e)
+      go e false t = share-unplaced t
 
-  pub resource-says : resourceOk n starts insts spacings ≡ true → (a b : ℕ) → a < n → b < n → (a ≡ b → ⊥) → Apart a b
+module _ (starts insts spacings : List ℕ) (n : ℕ) where
+  -- of n operations, each two that are placed on one instance start apart
+  abbrev AllApart : Type 0
+  AllApart =
+      (a b : ℕ) → a < n → b < n → (a ≡ b → ⊥) → 1 ≤ cell starts a → 1 ≤ cell starts b → cell insts a ≡ cell insts b
+      → apart (cell starts a) (cell spacings a) (cell starts b) (cell spacings b) ≡ true
+
+  pub resource-apart : resourceOk n starts insts spacings ≡ true → AllApart
   unfolding resourceOk besideOk
-  resource-says h a b la lb d =
+  resource-apart h a b la lb d pa pb e =
       elim (decLt a b) [
-        | yes l ↦ share-says a b la lb (allTo-each (shareOk starts insts spacings b) b (allTo-each (besideOk starts insts spacings) n h b lb) a l) .0
-        | no l ↦ share-says b a lb la (allTo-each (shareOk starts insts spacings a) a (allTo-each (besideOk starts insts spacings) n h a la) b (omega (arith, d))) .1
+        | yes l ↦ share-apart starts insts spacings b a (allTo-each (shareOk starts insts spacings b) b (allTo-each (besideOk starts insts spacings) n h b lb) a l) pa pb e
+        | no l ↦
+            apart-swap _ _ _ _
+            ∙ share-apart starts insts spacings a b (allTo-each (shareOk starts insts spacings a) a (allTo-each (besideOk starts insts spacings) n h a la) b (omega (arith, d))) pb pa (sym e)
       ]
 
-  pub says-resource : ((a b : ℕ) → a < n → b < n → (a ≡ b → ⊥) → Apart a b) → resourceOk n starts insts spacings ≡ true
+  pub apart-resource : AllApart → resourceOk n starts insts spacings ≡ true
   unfolding resourceOk besideOk
-  says-resource h =
+  apart-resource h =
       each-allTo (besideOk starts insts spacings) n (λ b lb. each-allTo (shareOk starts insts spacings b) b (λ a la.
-      says-share a b (h a b (omega arith) lb (λ e. omega arith)) (h b a lb (omega arith) (λ e. omega arith))))
+      apart-share starts insts spacings b a (h a b (omega arith) lb (λ e. omega arith))))
+
+  -- the same where all are placed
+  module _ (at : (o : ℕ) → o < n → 1 ≤ cell starts o) where
+    abbrev AllFollow : Type 0
+    AllFollow = (a b : ℕ) → a < n → b < n → (a ≡ b → ⊥) → cell insts a ≡ cell insts b → Follows (cell starts a) (cell spacings a) (cell starts b)
+
+    pub resource-says : resourceOk n starts insts spacings ≡ true → AllFollow
+    resource-says h a b la lb d e = apart-says _ _ _ _ (resource-apart h a b la lb d (at a la) (at b lb) e)
+
+    pub says-resource : AllFollow → resourceOk n starts insts spacings ≡ true
+    says-resource h = apart-resource (λ a b la lb d pa pb e. says-apart _ _ _ _ (h a b la lb d e) (h b a lb la (λ q. d (sym q)) (sym e)))

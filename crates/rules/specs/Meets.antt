@@ -44,6 +44,16 @@ unfoldable pub RunsFit : Job → (ℕ → ℕ) → (ℕ → ℕ) → Type 0
 RunsFit j start time =
     (s : ℕ) (run : List ℕ) → 1 ≤ s → 2 ≤ length run → Joined j run → AllIn start s run → runTotal (j .wire) time run ≤ j .clock
 
+-- ---- held steps
+
+-- an operation of this start and spacing holds its instance in step s: from start to start + spacing - 1
+abbrev pub HeldIn : ℕ → ℕ → ℕ → Type 0
+HeldIn start spacing s = (start ≤ s) × (s < start + spacing)
+
+-- no step is held by both of two
+abbrev pub Disjoint : ℕ → ℕ → ℕ → ℕ → Type 0
+Disjoint start spacing start' spacing' = (s : ℕ) → HeldIn start spacing s → HeldIn start' spacing' s → ⊥
+
 -- ---- the rules
 
 module _ (j : Job) (p : Plan) where
@@ -73,6 +83,16 @@ module _ (j : Job) (p : Plan) where
     pub begins : 1 ≤ start o
     pub ends : start o + delay o - 1 ≤ j .t
 
+  -- two operations on one instance have different starts, and the later start exceeds the earlier by at least the spacing of the
+  -- earlier operation
+  abbrev pub Resource : Type 0
+  Resource = (a b : ℕ) → a < j .n → b < j .n → (a ≡ b → ⊥) → inst a ≡ inst b → start a ≤ start b → (start a < start b) × (start a + spacing a ≤ start b)
+
+  -- in other words, where every row keeps its rule: no two operations hold one instance in one step (`held-exactly` in
+  -- proofs/HeldLaws)
+  abbrev pub HeldOnce : Type 0
+  HeldOnce = (a b : ℕ) → a < j .n → b < j .n → (a ≡ b → ⊥) → inst a ≡ inst b → Disjoint (start a) (spacing a) (start b) (spacing b)
+
   pub record Meets : Type 0 where
     -- one row for each operation, one selection bit for each instance
     pub operations : p .n ≡ j .n
@@ -82,9 +102,7 @@ module _ (j : Job) (p : Plan) where
     pub rows : (o : ℕ) → o < j .n → Row o
     -- a link's second operation starts when the first has ended, or both start together and both delays are 1
     pub precedence : (a b : ℕ) → Link j a b → (start a + delay a ≤ start b) ⊎ ((start a ≡ start b) × (delay a ≡ 1) × (delay b ≡ 1))
-    -- two operations on one instance have different starts, and the later exceeds the earlier by at least its own spacing
-    pub resource : (a b : ℕ) → a < j .n → b < j .n → (a ≡ b → ⊥) → inst a ≡ inst b → start a ≤ start b
-        → (start a < start b) × (start a + spacing b ≤ start b)
+    pub resource : Resource
     pub chains : RunsFit j start time
 
 -- ---- a judgement: the papers are read, the plan meets the rules, and c is the cost of its selection

@@ -57,17 +57,23 @@ linkOk from to starts delays l =
 unfoldable pub precedenceOk : List ℕ → List ℕ → ℕ → List ℕ → List ℕ → Bool
 precedenceOk from to e starts delays = allTo (linkOk from to starts delays) e
 
--- ---- resource: two operations on one instance start apart, by at least the spacing of the later
+-- ---- resource: two operations on one instance have different starts, and the later start exceeds the earlier by at least the
+-- spacing of the earlier operation (where each holds its instance for a step or more, no two hold one in one step:
+-- `apart-exactly` in proofs/HeldLaws)
 
-abbrev pub apart : ℕ → ℕ → ℕ → Bool
-apart start later spacing = ltb start later && leb (start + spacing) later
+-- an operation of this start and spacing starts before step `later`, and by its spacing or more
+abbrev pub spaced : ℕ → ℕ → ℕ → Bool
+spaced start spacing later = ltb start later && leb (start + spacing) later
+
+-- whichever of the two starts earlier
+unfoldable pub apart : ℕ → ℕ → ℕ → ℕ → Bool
+apart start spacing start' spacing' = spaced start spacing start' || spaced start' spacing' start
 
 unfoldable pub shareOk : List ℕ → List ℕ → List ℕ → ℕ → ℕ → Bool
 shareOk starts insts spacings b a =
     not (eqb (cell insts a) (cell insts b))
     || not (placed starts a && placed starts b)
-    || apart (cell starts a) (cell starts b) (cell spacings b)
-    || apart (cell starts b) (cell starts a) (cell spacings a)
+    || apart (cell starts a) (cell spacings a) (cell starts b) (cell spacings b)
 
 -- operation b with each before it
 unfoldable pub besideOk : List ℕ → List ℕ → List ℕ → ℕ → Bool

@@ -1,16 +1,17 @@
 // The rule on operations that share an instance.
 ghost use mathlib.Core.Path.{_≡_};
-ghost use Rattle.rules.specs.Rules.{apart as apartBy, shareOk, besideOk, resourceOk};
+ghost use Rattle.rules.specs.Rules.{spaced as spacedBy, shareOk, besideOk, resourceOk};
 use basics::cell;
 
-// The later start exceeds the other by at least the later operation's spacing.
-pub fn apart(start: u16, later: u16, spacing: u16) -> bool
-    ensures { λ r. ⌜ r ≡ apartBy start later spacing ⌝ }
+// An operation of this start and spacing starts before step `later`, and by its spacing or more.
+pub fn spaced(start: u16, spacing: u16, later: u16) -> bool
+    ensures { λ r. ⌜ r ≡ spacedBy start spacing later ⌝ }
 {
     (start < later) & (start as u32 + spacing as u32 <= later as u32)
 }
 
-// Operations a and b are not on one instance, not both placed, or start apart.
+// Operations a and b are not on one instance, not both placed, or start apart: the later start exceeds the earlier by at least
+// the earlier operation's spacing.
 fn share_ok<'a>(
     starts: &'a [u16],
     insts: &'a [u16],
@@ -26,8 +27,8 @@ fn share_ok<'a>(
     let start_a = cell(starts, a);
     let start_b = cell(starts, b);
     !((0 < start_a) & (0 < start_b))
-        | apart(start_a, start_b, cell(spacings, b))
-        | apart(start_b, start_a, cell(spacings, a))
+        | (spaced(start_a, cell(spacings, a), start_b)
+            | spaced(start_b, cell(spacings, b), start_a))
 }
 
 // Operation b with each before it.

@@ -106,12 +106,12 @@ plan5 = 0x20 ∷ 0x0d ∷ 0x80 ∷ []
 abbrev pub plan6 : List ℕ
 plan6 = 0x21 ∷ 0x8d ∷ 0x84 ∷ 0x84 ∷ 0x42 ∷ 0x10 ∷ []
 
--- selection 1: the add at 1 and the multiply at 2; the multiply at 1 and the add at 2
-abbrev pub addFirst : List ℕ
-addFirst = 0x21 ∷ 0x06 ∷ 0x10 ∷ 0x10 ∷ 0x00 ∷ []
-
+-- selection 1: the multiply at 1 and the add at 2; the add at 1 and the multiply at 2
 abbrev pub multiplyFirst : List ℕ
 multiplyFirst = 0x21 ∷ 0x06 ∷ 0x20 ∷ 0x08 ∷ 0x00 ∷ []
+
+abbrev pub addFirst : List ℕ
+addFirst = 0x21 ∷ 0x06 ∷ 0x10 ∷ 0x10 ∷ 0x00 ∷ []
 
 -- N 0, K 0
 abbrev pub plan9 : List ℕ
@@ -134,8 +134,8 @@ starred =
     ∷ record { number = 5; request = judging jobP plan5; answer = refusedBy countsDiffer; output = [] }
     ∷ record { number = 6; request = judging shortP plan6; answer = passedAt 40; output = [] }
     ∷ record { number = 7; request = judging wiredP plan6; answer = refusedBy chainBroken; output = [] }
-    ∷ record { number = 8; request = judging oneUnit addFirst; answer = refusedBy resourceBroken; output = [] }
-    ∷ record { number = 8; request = judging oneUnit multiplyFirst; answer = passedAt 10; output = [] }
+    ∷ record { number = 8; request = judging oneUnit multiplyFirst; answer = refusedBy resourceBroken; output = [] }
+    ∷ record { number = 8; request = judging oneUnit addFirst; answer = passedAt 10; output = [] }
     ∷ record { number = 9; request = searching noOps 1 unwritten; answer = foundAt 0 1 2; output = plan9 ++ replicate 5 0xff }
     ∷ record { number = 10; request = searching noSteps 1 unwritten; answer = noneAfter 1; output = unwritten }
     ∷ []

@@ -12,7 +12,7 @@ pub struct Bar {
     pub instance: usize,
     pub timing: Timing,
     pub steps: Range<u32>,
-    /// Its spacing, from its start on.
+    /// Its spacing from its start on, the steps in which it holds its instance.
     pub spacing: Range<u32>,
     /// In a chain it begins when results have arrived; where the chain is too long it leaves the steps.
     pub work: Range<u32>,

@@ -115,7 +115,7 @@ pub fn marks(job: &Job, plan: &Plan, rows: &Rows, frame: &Frame, limit: f64) -> 
     let marks = [
         (bars, Area("bar plain"), "an operation's steps (delay)"),
         (bars, Area("work plain"), "its working time, to scale"),
-        (bars, Area("spacing"), "its spacing"),
+        (bars, Area("spacing"), "holds its instance (spacing)"),
         (links(link), Arrow(link), "link"),
         (links(chain), Arrow(chain), "chain: link within a step"),
         (

@@ -11,7 +11,7 @@ use crate::planned::pairs;
 use crate::random::Random;
 use crate::record::{MAX_INSTANCES, MAX_OPERATIONS};
 use crate::samples::{
-    empty_job, full_job, job_p, jobs, most_links, random_links, unit_for_one_kind,
+    empty_job, full_job, job_of_case_8, job_p, jobs, most_links, random_links, unit_for_one_kind,
 };
 use crate::search::{walk, Searched};
 use crate::sheet::Form;
@@ -72,6 +72,7 @@ pub fn known_jobs() -> Vec<Job> {
         in_two_steps(90, 5),
         in_two_steps(55, 5),
         in_two_steps(55, 6),
+        job_of_case_8(),
         empty_job(),
         one_operation(vec![]),
         one_operation(vec![unit_for_one_kind(0, 1, 2, 1)]),

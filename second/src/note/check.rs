@@ -88,7 +88,7 @@ mod tests {
     use crate::job::Job;
     use crate::note::write::write;
     use crate::refusal::Paper;
-    use crate::samples::{empty_job, job_p, plan_of, plan_of_case_1};
+    use crate::samples::{empty_job, job_of_case_8, job_p, plan_of, plan_of_case_1};
     use crate::sheet::Form;
 
     /// What the note proves of job P beside the plan of case 1, or the number of its refusal.
@@ -200,6 +200,22 @@ mod tests {
         let other = "00110 100010 100000 100000 100000 100001 100000 100001";
         assert_eq!(checked(&job, &[], &packed(other)), Ok(Proved::None));
         assert_eq!(checked(&job, &[], &packed("00110 0")), Err(43));
+    }
+
+    /// Case 8's unit in three steps: the multiplication, operation 1, holds it in all of them. In four steps the last
+    /// is left to the addition.
+    #[test]
+    fn children_are_the_options_that_a_held_instance_leaves() {
+        let mut job = Job {
+            deadline: 3,
+            ..job_of_case_8()
+        };
+        let house = packed("00110 100000 100001 100001 100001");
+        assert_eq!(write(&job.sheet(), &[], 4), Ok(house));
+        let multiply_first = packed("00110 100001 100000");
+        assert_eq!(checked(&job, &[], &multiply_first), Ok(Proved::None));
+        job.deadline = 4;
+        assert_eq!(checked(&job, &[], &multiply_first), Err(44));
     }
 
     /// Digits of bits, zero bits behind them.

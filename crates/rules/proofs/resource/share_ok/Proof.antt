@@ -1,7 +1,6 @@
 -- Two on different instances share nothing; else the test is the definition.
 use mathlib.Core.Path.{_∙_, sym}
 use borrow.Author.Needs.{needs}
-use Rattle.basics.specs.Tables.{cell}
 use Rattle.rules.specs.Rules.{apart}
 use Rattle.rules.proofs.RuleLaws.{share-other, share-same}
 use Rattle.rules.proofs.resource.share_ok.Statement.{statement}
@@ -25,16 +24,17 @@ cell-requires-4 c κs = search needs
 cell-requires-5 : tie.Need-cell-requires-5
 cell-requires-5 c κs = search needs
 
-apart-requires : tie.Need-apart-requires
-apart-requires c κs = search needs
+spaced-requires : tie.Need-spaced-requires
+spaced-requires c κs = search needs
 
 cell-requires-6 : tie.Need-cell-requires-6
 cell-requires-6 c κs = search needs
 
-apart-requires-2 : tie.Need-apart-requires-2
-apart-requires-2 c κs = search needs
+spaced-requires-2 : tie.Need-spaced-requires-2
+spaced-requires-2 c κs = search needs
 
 returns-2 : tie.Need-returns-2
+unfolding apart
 returns-2 c =
     let b2 = c .before .before in
     let b3 = b2 .before in
@@ -43,7 +43,7 @@ returns-2 c =
     let b6 = b5 .before in
     let b7 = b6 .before in
     let b8 = b7 .before in
-    share-same _ _ _ _ _ _ (sym (b8 .cell .ensures .0) ∙ b6 .if1 .left ∙ b7 .cell2 .ensures .0) (simp (c .apart2 .ensures, c .before .cell6 .ensures .0, b2 .apart .ensures, b3 .cell5 .ensures .0, b4 .cell4 .ensures .0, b5 .cell3 .ensures .0))
+    share-same _ _ _ _ _ _ (sym (b8 .cell .ensures .0) ∙ b6 .if1 .left ∙ b7 .cell2 .ensures .0) (simp (c .spaced2 .ensures, c .before .cell6 .ensures .0, b2 .spaced .ensures, b3 .cell5 .ensures .0, b4 .cell4 .ensures .0, b5 .cell3 .ensures .0))
 
 pub share-ok-spec : {M : Type 1} → statement M
 share-ok-spec =
@@ -55,7 +55,7 @@ share-ok-spec =
     cell-requires-3
     cell-requires-4
     cell-requires-5
-    apart-requires
+    spaced-requires
     cell-requires-6
-    apart-requires-2
+    spaced-requires-2
     returns-2)
