@@ -65,7 +65,7 @@ precedenceOk from to e starts delays = allTo (linkOk from to starts delays) e
 abbrev pub spaced : ℕ → ℕ → ℕ → Bool
 spaced start spacing later = ltb start later && leb (start + spacing) later
 
--- whichever of the two starts earlier
+-- of two operations, whichever of them starts earlier
 unfoldable pub apart : ℕ → ℕ → ℕ → ℕ → Bool
 apart start spacing start' spacing' = spaced start spacing start' || spaced start' spacing' start
 
