@@ -1,4 +1,6 @@
 // The answer of every entry, faults joined in their order, and what is asked of a record's tables.
+#![tactic(auto)]
+
 ghost use Rattle.std.specs.Prelude.{◌≡◌, ◌<◌};
 ghost use Rattle.basics.specs.Answers.{refused_says};
 ghost use Rattle.basics.specs.Counting.{only as only_if};
@@ -92,7 +94,7 @@ pub const READ: u32 = 7;
 
 // The answer of every entry. A number that does not belong to the outcome is 0.
 #[repr(C)]
-#[derive(Drop)]
+#[derive(Clone, Copy)]
 pub struct Answer {
     pub outcome: u32,
     pub number: u32,

@@ -1,4 +1,6 @@
 // Fields of 1 to 16 bits in bytes, most significant bit first, across the borders of bytes.
+#![tactic(auto)]
+
 ghost use Rattle.std.specs.Prelude.{◌≡◌, ◌+◌, ◌*◌, ◌/◌, ◌%◌, ◌^◌, ◌≤◌, ◌<◌, length};
 ghost use Rattle.bits.specs.Bits.{bit as bit_at, field as field_at, put_field};
 ghost use Rattle.bits.specs.Sheet.{bytes_for};

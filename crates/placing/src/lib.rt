@@ -1,11 +1,13 @@
 // Rows placed so far: what is live, what it costs, and the test of one more row.
+#![tactic(auto)]
+
 pub mod boards; // what placing asks of a job
 pub mod fitting; // one more row against a live placing
 pub mod costing; // the smallest selection and its cost
 pub mod closing; // when a place may be closed, and what it can be split on
 
 // What placing asks of a job, for the functions below to borrow.
-#[derive(Drop)]
+#[derive(Clone, Copy)]
 pub struct Board {
     pub n: u16, // operations
     pub k: u16, // instances
@@ -25,7 +27,7 @@ pub struct Board {
 }
 
 // What a note claims: a plan at this cost, or (then the cost is 0) that there is none.
-#[derive(Drop)]
+#[derive(Clone, Copy)]
 pub struct Claim {
     pub plan: bool,
     pub cost: u32,

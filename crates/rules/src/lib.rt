@@ -1,4 +1,6 @@
 // The rules of a plan, and the judge.
+#![tactic(auto)]
+
 pub mod model; // what a job says of its instances: K, types, times, delays, spacings
 pub mod selection; // selection order and cost
 pub mod rows; // the rule on rows
@@ -8,7 +10,7 @@ pub mod chains; // the rule on runs within a step
 pub mod judging; // the judge
 
 // What each operation of a plan takes on its instance.
-#[derive(Drop)]
+#[derive(Clone, Copy)]
 pub struct Timing {
     pub times: [u16; sheets::limits::OP_CELLS], // ns; 0: cannot be done
     pub delays: [u16; sheets::limits::OP_CELLS], // steps
@@ -16,7 +18,7 @@ pub struct Timing {
 }
 
 // What each operation takes on each instance: operation o on instance i has cell INST_CELLS * o + i.
-#[derive(Drop)]
+#[derive(Clone, Copy)]
 pub struct Tables {
     pub times: [u16; model::UNIT_CELLS], // as above
     pub delays: [u16; model::UNIT_CELLS],
@@ -24,14 +26,14 @@ pub struct Tables {
 }
 
 // The judge's answer.
-#[derive(Drop)]
+#[derive(Clone, Copy)]
 pub enum Judged {
     Passed { cost: u32 },
     Refused { number: u32, paper: u32 },
 }
 
 // The judge's answer, beside the job and the plan, each zeros where it was not read.
-#[derive(Drop)]
+#[derive(Clone, Copy)]
 pub struct Lent {
     pub judged: Judged,
     pub job: sheets::Job,

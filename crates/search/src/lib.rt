@@ -1,9 +1,11 @@
 // The search: the walk over all plans of a job, visit by visit, and its answer.
+#![tactic(auto)]
+
 pub mod walking; // the walk
 pub mod searching; // the search: search, searched_says
 
 // How far a walk has come: arrivals so far, and whether a best is held and at what cost.
-#[derive(Drop)]
+#[derive(Clone, Copy)]
 pub struct Progress {
     pub visits: u32,
     pub held: bool,
@@ -11,7 +13,7 @@ pub struct Progress {
 }
 
 // What an arrival comes to: there is no budget for it, it is counted and goes no further, or it is counted and goes on.
-#[derive(Drop)]
+#[derive(Clone, Copy)]
 pub enum Arrival {
     Spent,
     Shut(Progress),
@@ -19,14 +21,14 @@ pub enum Arrival {
 }
 
 // Where a walk ends: its budget spent, or done.
-#[derive(Drop)]
+#[derive(Clone, Copy)]
 pub enum Walked {
     Spent,
     Done(Progress),
 }
 
 // The search's answer.
-#[derive(Drop)]
+#[derive(Clone, Copy)]
 pub enum Searched {
     Found { cost: u32, visits: u32, length: u32 },
     Nothing { visits: u32 },

@@ -1,4 +1,6 @@
 // Job and plan sheets: the records, and what a reader or a writer answers.
+#![tactic(auto)]
+
 pub mod answers; // what each case of an answer says in numbers
 pub mod limits; // limits, widths and positions
 pub mod groups; // groups of a sheet in stream order, and their faults
@@ -8,7 +10,7 @@ pub mod plans; // the plan sheet: read_plan, write_plan
 
 // A job. Cells that its counts do not use are zero.
 #[repr(C)]
-#[derive(Drop)]
+#[derive(Clone, Copy)]
 pub struct Job {
     pub n: u16, // operations
     pub e: u16, // links
@@ -27,7 +29,7 @@ pub struct Job {
 
 // A plan. Cells that its counts do not use are zero.
 #[repr(C)]
-#[derive(Drop)]
+#[derive(Clone, Copy)]
 pub struct Plan {
     pub n: u16, // operations, a row each
     pub k: u16, // instances
@@ -37,26 +39,26 @@ pub struct Plan {
 }
 
 // A reader's answer, which stands beside the record.
-#[derive(Drop)]
+#[derive(Clone, Copy)]
 pub enum Reading {
     Read,
     Refused { number: u32, paper: u32 },
 }
 
-#[derive(Drop)]
+#[derive(Clone, Copy)]
 pub struct JobRead {
     pub answer: Reading,
     pub job: Job,
 }
 
-#[derive(Drop)]
+#[derive(Clone, Copy)]
 pub struct PlanRead {
     pub answer: Reading,
     pub plan: Plan,
 }
 
 // A writer's answer.
-#[derive(Drop)]
+#[derive(Clone, Copy)]
 pub enum Written {
     Wrote { length: u32 },
     Refused { number: u32, paper: u32 },

@@ -1,4 +1,6 @@
 // The entries for C, as include/tolmupung.h declares them.
+#![tactic(auto)]
+
 ghost use Rattle.std.specs.Prelude.{◌≡◌, length};
 ghost use Rattle.sheets.specs.JobSheet.{read_job, write_job, job_out};
 ghost use Rattle.sheets.specs.PlanSheet.{read_plan, write_plan, plan_out};
@@ -21,14 +23,14 @@ use sheets::answers::{reading_says, written_says};
 use sheets::{Job, Plan};
 
 #[repr(C)]
-#[derive(Drop)]
+#[derive(Clone, Copy)]
 pub struct JobRead {
     pub answer: Answer,
     pub job: Job,
 }
 
 #[repr(C)]
-#[derive(Drop)]
+#[derive(Clone, Copy)]
 pub struct PlanRead {
     pub answer: Answer,
     pub plan: Plan,

@@ -1,4 +1,6 @@
 // One dossier on standard input, one line on standard output: cheapest and the cost, none, or refused, paper and number.
+#![tactic(auto)]
+
 ghost use Rattle.std.specs.Prelude.{◌≡◌, ◌++◌, ◌≤◌, ◌+◌, length as length_of};
 ghost use Rattle.io.specs.Counts.{IsPrefixLen};
 ghost use Rattle.verdict.specs.Line.{line_cells, most_digits, decimal, line, spelt};
@@ -14,7 +16,7 @@ const INPUT_CELLS: usize = dossiers::limits::MAX_DOSSIER + 1;
 const LINE_CELLS: usize = 32;
 
 // A line as far as it is spelt.
-#[derive(Drop)]
+#[derive(Clone, Copy)]
 struct Line {
     text: [u8; LINE_CELLS],
     length: usize,
