@@ -106,7 +106,7 @@ append-holds s at (f ∷ a) b ha hb =
 pub put-append : (s : List ℕ) (at : ℕ) (a b : List Field) → put_all s at (a ++ b) ≡ put_all (put_all s at a) (at + total a) b
 unfolding put_all total
 put-append s at [] b = ap (λ (k : ℕ). put_all s k b) (sym (add-zero at))
-put-append s at (f ∷ a) b = put-append _ (at + f.width) a b ∙ ap (λ (k : ℕ). put_all (put_all (put_field s at f.width f.value) (at + f.width) a) k b) (add_assoc at f.width (total a))
+put-append s at (f ∷ a) b = put-append (put_field s at f.width f.value) (at + f.width) a b ∙ ap (λ (k : ℕ). put_all (put_all (put_field s at f.width f.value) (at + f.width) a) k b) (add_assoc at f.width (total a))
 
 -- ---- groups of one width
 
