@@ -5,11 +5,7 @@ use lib.Signed.{lt_z}
 use mir.Syntax.{w32}
 use mir.ValLaws.{to_z-of_z}
 use Rattle.moves.proofs.DistanceLaws.{leads-back}
-use Rattle.moves.proofs.sliding.backward.Statement.{statement}
-use Rattle.moves.proofs.sliding.backward.Tie as tie
+use Rattle.moves.proofs.sliding.backward.Goals as goal
 
-returns : tie.Need-returns
+pub returns : goal.returns
 returns c = ap (λ (z : ℤ). lt_z z (pos 0)) (to_z-of_z w32 c.args.distance c.ranges.distance) ∙ leads-back c.args.distance
-
-pub backward-spec : {M : Type 1} → statement M
-backward-spec = tie.close (tie.spec returns)
