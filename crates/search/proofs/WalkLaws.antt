@@ -1,6 +1,6 @@
 -- What the proof of `walk` needs: how the walk goes on from a level with the options left (`rest`), and what a call leaves.
 use Prim.Native.Nat.{ℕ, zero, suc, ◌+◌, ◌-◌, ◌≤◌, ◌<◌, min}
-use mathlib.Core.Path.{◌≡◌, refl, sym, ap, ◌∙◌}
+use mathlib.Core.Path.{subst, ◌≡◌, refl, sym, ap, ◌∙◌}
 use mathlib.Core.Bool.{Bool, true, false, ◌&&◌}
 use mathlib.Core.List.{List}
 use native.Mathlib.Nat.{lt_of_le_of_lt}
@@ -226,7 +226,7 @@ module _ {b : Board} {op here budget : ℕ} {p₀ : Placing} {lows₀ : List ℕ
       → Stands b op here budget p₀ lows₀ u (placing starts' insts') lows' (state_of x' best-starts' best-insts') (row b s (i + 1))
   after_dead {starts} {starts'} {insts} {insts'} {lows} {lows'} {best-starts} {best-starts'} {best-insts} {best-insts'} {x} {x'} s i st l d e₁ e₂ e₃ e₄ e₅ e₆ =
       let v : state_of x' best-starts' best-insts' ≡ state_of x best-starts best-insts = same-state e₆ e₄ e₅ in
-      stands-as st (λ k. placing (e₁ k) (e₂ k)) e₃ (rw v st.kept) (rw v (past-dead b op (placing starts insts) (state_of x best-starts best-insts) u s i l d st.goes))
+      stands-as st (λ k. placing (e₁ k) (e₂ k)) e₃ (subst (λ (k : State Placing). k.visits ≤ budget) (sym v) st.kept) (rw v (past-dead b op (placing starts insts) (state_of x best-starts best-insts) u s i l d st.goes))
 
   -- one that is live was visited
   pub after-live : {starts starts' starts'' insts insts' insts'' lows lows' lows'' best-starts best-starts' best-starts'' best-insts best-insts' best-insts'' : List ℕ}
@@ -245,7 +245,7 @@ module _ {b : Board} {op here budget : ℕ} {p₀ : Placing} {lows₀ : List ℕ
       let kept = w.keeps done.0 in
       let v : state_of x'' best-starts'' best-insts'' ≡ e = same-state e₆ e₄ e₅ ∙ state-is done.1 kept.2 in
       let a : placing starts'' insts'' ≡ placing starts' insts' = λ k. placing (e₁ k) (e₂ k) in
-      stands-as st (a ∙ kept.0) (e₃ ∙ kept.1) (rw v done.0) (rw v (past-live b op p (state_of x best-starts best-insts) u s i l d st.goes))
+      stands-as st (a ∙ kept.0) (e₃ ∙ kept.1) (subst (λ (k : State Placing). k.visits ≤ budget) (sym v) done.0) (rw v (past-live b op p (state_of x best-starts best-insts) u s i l d st.goes))
 
 -- the row of a start is done
 pub next_start : {b : Board} {op here budget : ℕ} {p₀ p₁ p : Placing} {lows₀ lows₁ lows : List ℕ} {u v₁ v : State Placing} (s i : ℕ)
