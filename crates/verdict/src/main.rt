@@ -6,8 +6,8 @@ ghost use Rattle.io.specs.Counts.{IsPrefixLen};
 ghost use Rattle.verdict.specs.Line.{line_cells, most_digits, decimal, line, spelt};
 
 use dossiers::checking::check_dossier;
-use libc::{STDIN_FILENO, STDOUT_FILENO};
 use notes::Checked;
+use std::io::{Input, Read, Write};
 
 // A byte more than any dossier has: input that fills it is too long, whatever follows.
 const INPUT_CELLS: usize = dossiers::limits::MAX_DOSSIER + 1;
@@ -72,11 +72,28 @@ fn line_of(answer: Checked) -> Line
     }
 }
 
-fn main() {
+// Reads until the table is full, the input ends or a read fails, and says how many bytes there are.
+fn read_full<R: Read>(input: &mut R, table: &mut [u8]) -> usize
+    ensures { IsPrefixLen result table.new }
+{
+    let mut done = 0;
+    while done < table.len() {
+        let Ok(n) = input.read(&mut table[done..]) else {
+            break;
+        };
+        if n == 0 {
+            break;
+        }
+        done += n;
+    }
+    done
+}
+
+fn main(rt: HostRuntime) -> std::io::Result<()> {
     let mut input = [0u8; INPUT_CELLS];
-    let n = io::read_full(STDIN_FILENO, &mut input);
+    let n = read_full(&mut rt.reader(), &mut input);
     let said = line_of(check_dossier(&input[..n]));
     let text = said.text;
     let length = said.length;
-    io::write_all(STDOUT_FILENO, &text[..length]);
+    std::io::writer(&rt).write_all(&text[..length])
 }
