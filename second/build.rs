@@ -12,7 +12,7 @@ fn main() {
     println!("cargo::rerun-if-changed={}", archive.display());
     if !archive.is_file() {
         let name = archive.display();
-        println!("cargo::error=no library at {name}: build it first with `rt staticlib tolmupung`");
+        println!("cargo::error=no library at {name}: build it first, as .ci/run does");
         return;
     }
     println!("cargo::rustc-link-search=native={}", folder.display());

@@ -7,15 +7,18 @@ archive=$(realpath "$1")
 folder=$(mktemp -d)
 trap 'rm -rf "$folder"' EXIT
 clone="$folder/a clone"
-mkdir -p "$clone/crates" "$folder/bin"
+mkdir -p "$clone/crates/tolmupung" "$folder/bin"
 cp -r tolmupung crates.txt desk include examples "$clone"
+libraries=$(sed -n 's/^tolmupung staticlib: *//p' crates.txt)
+for crate in $libraries; do mkdir "$clone/crates/$crate"; done
 cat > "$folder/bin/rt" << END
 #!/bin/bash
-echo run >> "$folder/runs"
+[ "\$1" = lib ] || exit 2
 [ ! -e "$folder/broken" ] || { echo 'rt: nothing is proved'; exit 1; }
-echo 'rt: basics proved (1 s)'
-mkdir -p target/staticlib
-cp "$archive" target/staticlib/libtolmupung.a
+[ "\${PWD##*/}" = tolmupung ] || exit 0
+echo run >> "$folder/runs"
+mkdir -p out
+cp "$archive" out/libtolmupung.a
 END
 chmod +x "$folder/bin/rt"
 export PATH="$folder/bin:$PATH"
@@ -36,8 +39,9 @@ done
 wait
 [ "$(cat said1 said2 said3 said4 | sort -u)" = 'cheapest 40' ] || fail "four at once: $(cat said? heard?)"
 [ "$(runs)" -eq 1 ] && [ "$(grep -l 'building the desk' heard? | wc -l)" -eq 1 ] || fail "built more than once: $(cat heard?)"
-all=$(sed -n 's/^tolmupung: *//p' "$clone/crates.txt" | wc -w)
-grep -q "^  1 of $all: basics proved (1 s)\$" heard? || fail "no progress: $(cat heard?)"
+all=$(wc -w <<< "$libraries")
+grep -q "^  1 of $all: basics proved ([0-9]* s)\$" heard? || fail "no progress: $(cat heard?)"
+grep -q "^  $all of $all: dossiers proved ([0-9]* s)\$" heard? || fail "not all told: $(cat heard?)"
 grep -q 'waiting for another start' heard? || fail "nobody waited: $(cat heard?)"
 
 # what was built is kept, and nothing is said
@@ -59,7 +63,7 @@ touch "$clone/crates/changed" "$folder/broken"
 asks 2 ''
 grep -q 'rt: nothing is proved' heard && grep -q 'the library could not be built' heard || fail "$(cat heard)"
 rm "$folder/bin/rt"
-for tool in bash cat dirname readlink find flock mkdir touch; do ln -s "$(command -v $tool)" "$folder/bin/$tool"; done
+for tool in bash cat dirname readlink find flock mkdir touch cp sed; do ln -s "$(command -v $tool)" "$folder/bin/$tool"; done
 PATH="$folder/bin" asks 2 ''
 grep -q 'rt is needed to build the library' heard || fail "$(cat heard)"
 
