@@ -35,6 +35,8 @@ stopped a b r e q = e ∙ sym (or_else-stop a b (λ z. q (e ∙ z)))
 pub went : (a b r : ℕ) → a ≡ 0 → r ≡ b → r ≡ a or_else b
 went a b r z e = e ∙ sym (or_else-go a b z)
 
+pub ruleset or_else_laws = (or_else-go, or_else-stop)
+
 -- ---- the fault of a test
 
 pub unless-none : (test : Bool) (number : ℕ) → 0 < number → fault_unless test number ≡ 0 → test ≡ true

@@ -119,6 +119,7 @@ pub fn refused(number: u32, paper: u32) -> Answer
 }
 
 // The fault a, or where there is none the fault b.
+#[tactic(auto, using(crate::proofs::FaultLaws::or_else_laws))]
 pub fn or_else(a: u32, b: u32) -> u32
     ensures { result ≡ a or_else b }
 {

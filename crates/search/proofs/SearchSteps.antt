@@ -29,7 +29,7 @@ use Rattle.placing.specs.Board.{WasRead}
 use Rattle.placing.specs.Plans.{plan_from}
 use Rattle.search.specs.Walking.{state_of, arrival, goes_on, Walks}
 use Rattle.search.specs.declared.Arrival.{Arrival}
-use Rattle.search.specs.declared.Arrival.TheVariants.{Spent as None, Shut, Open}
+use Rattle.search.specs.declared.Arrival.TheVariants.{Spent as NoneLeft, Shut, Open}
 use Rattle.search.specs.declared.Progress.{Progress}
 use Rattle.search.specs.declared.Walked.{Walked}
 use Rattle.search.specs.declared.Walked.TheVariants.{Spent as Over, Done}
@@ -50,7 +50,7 @@ at_start = record { visits = 0; held = false; cost = 0 }
 -- the first arrival is never shut out, since nothing is held
 pub start-over : (j : Job) (budget : ℕ) (a : Arrival) → a ≡ arrival budget at_start 0 → ((x : Progress) → a ≡ Open x → ⊥) → budget < (walked (board_of j)).visits
 unfolding walked
-start-over j budget None e h =
+start-over j budget NoneLeft e h =
     lt_of_le_of_lt (arrival-none budget at_start 0 e refl) (visits-walk Placing (cost (board_of j)) (children (board_of j)) (board_of j).n none begin)
 start-over j budget (Shut x) e h = absurd (let w = arrival-shut budget at_start 0 e refl in let z : ◌≡◌ {A = ℕ} 0 1 = cc in omega arith)
 start-over j budget (Open x) e h = absurd (h x refl)

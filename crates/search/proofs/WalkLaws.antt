@@ -22,7 +22,7 @@ use Rattle.placing.proofs.RowLaws.{row, from_start, row-start, row-end, row-live
 use Rattle.search.specs.Search.{walk_from, within}
 use Rattle.search.specs.Walking.{state_of, counted, arrival_if, arrival, goes_on, ended, Walks}
 use Rattle.search.specs.declared.Arrival.{Arrival}
-use Rattle.search.specs.declared.Arrival.TheVariants.{Spent as None, Shut, Open}
+use Rattle.search.specs.declared.Arrival.TheVariants.{Spent as NoneLeft, Shut, Open}
 use Rattle.search.specs.declared.Progress.{Progress}
 use Rattle.search.specs.declared.Walked.{Walked}
 use Rattle.search.specs.declared.Walked.TheVariants.{Spent, Done}
@@ -78,12 +78,12 @@ module _ {budget : ℕ} {e : State Placing} {r : Walked} {p p' best' : Placing} 
 -- ---- an arrival, as the code counts it
 
 abbrev arrival_kind : Arrival → ℕ
-arrival_kind None = 0
+arrival_kind NoneLeft = 0
 arrival_kind (Shut x) = 1
 arrival_kind (Open x) = 2
 
 abbrev arrival_in : Arrival → Progress → Progress
-arrival_in None other = other
+arrival_in NoneLeft other = other
 arrival_in (Shut x) other = x
 arrival_in (Open x) other = x
 
@@ -91,11 +91,11 @@ module _ (budget : ℕ) (x : Progress) (here : ℕ) where
   abbrev out : Bool
   out = x.held && leb x.cost here
 
-  pub arrival-none : {r : Arrival} → r ≡ arrival budget x here → r ≡ None → budget ≤ x.visits
+  pub arrival-none : {r : Arrival} → r ≡ arrival budget x here → r ≡ NoneLeft → budget ≤ x.visits
   unfolding arrival_if
   arrival-none e q = go (leb budget x.visits) out refl (sym q ∙ e)
     where
-      go : (t u : Bool) → leb budget x.visits ≡ t → None ≡ arrival_if t u (counted x) → budget ≤ x.visits
+      go : (t u : Bool) → leb budget x.visits ≡ t → NoneLeft ≡ arrival_if t u (counted x) → budget ≤ x.visits
       go true u h p = leb-true budget x.visits h
       go false true h p = absurd (let z : 0 ≡ 1 = ap arrival_kind p in omega arith)
       go false false h p = absurd (let z : 0 ≡ 2 = ap arrival_kind p in omega arith)
@@ -276,7 +276,7 @@ module _ {b : Board} {op : ℕ} {p : Placing} {lows : List ℕ} {here s i : ℕ}
   now-cost : cost' ≡ cost b more
   now-cost = (next-ready w (op + 1) (omega arith) (omega arith) (omega (arith, w.more)) l m c).tracks.costs
 
-  pub visit-none : (p' best' : Placing) (lows' : List ℕ) → a ≡ None → Walks budget end Spent p p' best' lows lows'
+  pub visit-none : (p' best' : Placing) (lows' : List ℕ) → a ≡ NoneLeft → Walks budget end Spent p p' best' lows lows'
   visit-none p' best' lows' q =
       walks-spent budget end p p' best' lows lows'
       (lt_of_le_of_lt (arrival-none budget x cost' at q) (visits-walk Placing (cost b) (children b) (b.n - (op + 1)) more (state_of x starts insts)))

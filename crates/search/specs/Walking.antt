@@ -11,7 +11,7 @@ use Rattle.search.specs.declared.Progress.{Progress}
 use Rattle.search.specs.declared.Walked.{Walked}
 use Rattle.search.specs.declared.Walked.TheVariants.{Spent, Done}
 use Rattle.search.specs.declared.Arrival.{Arrival}
-use Rattle.search.specs.declared.Arrival.TheVariants.{Spent as None, Shut, Open}
+use Rattle.search.specs.declared.Arrival.TheVariants.{Spent as NoneLeft, Shut, Open}
 use Rattle.search.specs.Search.{walk_from, within}
 
 abbrev pub state_of : Progress → List ℕ → List ℕ → State Placing
@@ -24,7 +24,7 @@ abbrev pub counted : Progress → Progress
 counted so_far = record { visits = so_far.visits + 1; held = so_far.held; cost = so_far.cost }
 
 unfoldable pub arrival_if : Bool → Bool → Progress → Arrival
-arrival_if true shut x = None
+arrival_if true shut x = NoneLeft
 arrival_if false true x = Shut x
 arrival_if false false x = Open x
 
