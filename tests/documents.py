@@ -71,7 +71,7 @@ def theorems(text):
             _, _, names, cell, _ = row.split("|")
             files = files_of(cell, files)
             for name in quoted(names):
-                if re.fullmatch(r"[a-z]+|\w+(-\w+)+", name):
+                if re.fullmatch(r"[a-z_]+|\w+(-\w+)+", name):
                     yield name, files
 
 

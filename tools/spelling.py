@@ -1,7 +1,7 @@
 #!/usr/bin/env python3
 """Turns the names of this project's definitions and lemmas from camel case to snake case, as in `allTo-more` to `all_to-more`.
 
-usage: python3 tools/spelling.py        at the top of the project, once, after /opt/rattle/port/port.py
+usage: python3 tools/spelling.py        at the top of the project, once, after the toolchain's port.py
 
 A name's parts that begin with a capital are types and stay; so do dashes, which join two names. It rewrites crates/**/*.rt,
 *.antt and must-fail/*.edit. Where a lemma would fall together with a definition, it keeps the dash that port.py took from it.
