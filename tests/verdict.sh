@@ -65,4 +65,10 @@ exec 3< "$folder/long"
 told 'refused 3 51' '200,000 bytes'
 left=$(wc -c <&3)
 [ "$left" -eq $((200000 - 65537)) ] || { echo "of 200,000 bytes $left were left unread" >&2; exit 1; }
+
+# a line that cannot be written
+bytes "$whole" > "$folder/dossier"
+status=0
+"$verdict" < "$folder/dossier" > /dev/full 2> "$folder/said" || status=$?
+[ "$status" -eq 1 ] && [ -s "$folder/said" ] || { echo "a full disk: status $status" >&2; exit 1; }
 echo "$said inputs, each with the line that it should have"

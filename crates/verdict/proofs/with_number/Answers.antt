@@ -6,13 +6,11 @@ use Rattle.verdict.specs.Line.{spelt}
 use Rattle.verdict.proofs.LineLaws.{few-digits, fewest-decimal}
 use Rattle.verdict.proofs.with_number.Goals as goal
 
--- src/main.rt:49:5
 pub with-requires : goal.with-requires
 with-requires c =
     let d = c.decimal-count.ensures in
     omega (arith, d.in_bounds.1, few-digits c.args.number c.decimal-count.result c.ranges.number.fits d.len, c.requires)
 
--- src/main.rt:43:1
 pub returns : goal.returns
 returns c =
     let d = c.decimal-count.ensures in
