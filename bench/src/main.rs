@@ -18,8 +18,8 @@ struct Benchmark {
     /// What is counted, and for whom beside the library.
     what: &'static str,
     peer: &'static str,
-    /// The library's speed beside the peer's below which something is wrong. Against C one half is asked, and runs of one build
-    /// differ by up to a quarter.
+    /// The library's speed beside the peer's, of the fastest rounds of each, below which something is wrong. Against C one half is
+    /// asked, and runs of one build differ by up to a quarter.
     least_ratio: f64,
     /// A name and the speeds for each line.
     lines: fn() -> Vec<(String, Speeds)>,
@@ -77,8 +77,9 @@ fn measure(benchmarks: &[Benchmark]) -> ExitCode {
         println!("{}", timing::heading(benchmark.what, benchmark.peer));
         for (name, speeds) in lines {
             println!("{}", speeds.line(&name));
-            if speeds.ratio() < least {
-                println!("too slow: the ratio should be at least {least}");
+            let fastest = speeds.fastest_ratio();
+            if fastest < least {
+                println!("too slow: {fastest:.2} of the fastest rounds should be at least {least}");
                 status = ExitCode::FAILURE;
             }
         }
