@@ -54,9 +54,31 @@ pub any_to-more : (test : ℕ → Bool) (n : ℕ) → any_to test (n + 1) ≡ an
 unfolding any_to
 any_to-more test n = rw add-one
 
+pub sum_to-cong : (f g : ℕ → ℕ) (n : ℕ) → ((i : ℕ) → i < n → f i ≡ g i) → sum_to f n ≡ sum_to g n
+unfolding sum_to
+sum_to-cong f g zero h = refl
+sum_to-cong f g (suc n) h = omega (arith, sum_to-cong f g n (λ i l. h i (omega arith)), h n (omega arith))
+
 pub sum_to-more : (f : ℕ → ℕ) (n : ℕ) → sum_to f (n + 1) ≡ sum_to f n + f n
 unfolding sum_to
 sum_to-more f n = rw add-one
+
+-- ---- none yet
+
+pub all_to-begins : (test : ℕ → Bool) → all_to test 0 ≡ true
+unfolding all_to
+all_to-begins test = refl
+
+pub any_to-begins : (test : ℕ → Bool) → any_to test 0 ≡ false
+unfolding any_to
+any_to-begins test = refl
+
+pub sum_to-begins : (f : ℕ → ℕ) → sum_to f 0 ≡ 0
+unfolding sum_to
+sum_to-begins f = refl
+
+-- of a loop that counts
+pub ruleset count_laws = (all_to-begins, all_to-more, any_to-begins, any_to-more, sum_to-begins, sum_to-more)
 
 -- ---- all and each
 
@@ -77,11 +99,6 @@ each-all_to test (suc n) h = both-and _ _ (each-all_to test n (λ i l. h i (omeg
 -- of fewer
 pub all_to-fewer : (test : ℕ → Bool) (m n : ℕ) → m ≤ n → all_to test n ≡ true → all_to test m ≡ true
 all_to-fewer test m n l h = each-all_to test m (λ i q. all_to-each test n h i (omega arith))
-
--- of more, where the test holds of those
-pub all_to-further : (test : ℕ → Bool) (m n : ℕ) → all_to test m ≡ true → ((i : ℕ) → m ≤ i → i < n → test i ≡ true) → all_to test n ≡ true
-all_to-further test m n h more =
-    each-all_to test n (λ i q. elim (dec_lt i m) [ yes l ↦ all_to-each test m h i l | no l ↦ more i (omega arith) q ])
 
 pub all_to-not : (test : ℕ → Bool) (n i : ℕ) → i < n → test i ≡ false → all_to test n ≡ false
 all_to-not test n i l h = same_test _ _ (λ t. absurd (let z : true ≡ false = sym (all_to-each test n t i l) ∙ h in let y : ◌≡◌ {A = ℕ} 0 1 = cc in omega arith)) (λ t. absurd (let y : ◌≡◌ {A = ℕ} 0 1 = cc in omega arith))

@@ -2,3 +2,4 @@ pub mod AnswerLaws
 pub mod CountLaws
 pub mod TableLaws
 pub mod FaultLaws
+pub mod ChainLaws

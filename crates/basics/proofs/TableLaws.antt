@@ -1,22 +1,17 @@
 -- Laws of tables: one cell more, what stands in each cell, and when a table is `cells` of what it holds.
-use Prim.Native.Nat.{ℕ, zero, suc, ◌+◌, ◌<◌, ◌≤◌}
+use Prim.Native.Nat.{ℕ, zero, suc, ◌<◌, ◌≤◌}
 use mathlib.Core.Path.{◌≡◌, refl, sym, ◌∙◌}
 use mathlib.Core.Bool.{true}
 use mathlib.Core.List.{List}
 use native.Mathlib.Decide.{dec_lt}
-use native.Mathlib.Numerals.{add-one}
 use native.Mathlib.Omega.{arith}
 use borrow.Author.Tests.{leb-true, eqb-true, le-leb, lt-leb, lt-ltb, le-ltb}
-use lib.ListN.{length, set, replicate, length-set, length-replicate, get_or-eq_default}
+use lib.ListN.{length, replicate, length-set, length-replicate, get_or-eq_default}
 use lib.Seq.{get_or-set_same, get_or-set_other, ext_get_or}
-use Rattle.basics.specs.Tables.{cell, filled, cells, cell_within, within, cell_blank, blank}
+use Rattle.basics.specs.Tables.{cell, filled, cells, cell_within, within, cell_blank, blank, HoldsCells}
 use Rattle.basics.proofs.CountLaws.{all_to-each, each-all_to}
 
 -- ---- filled tables
-
-pub filled_more : (table : List ℕ) (f : ℕ → ℕ) (n : ℕ) → filled table f (n + 1) ≡ set (filled table f n) n (f n)
-unfolding filled
-filled_more table f n = rw add-one
 
 pub length-filled : (table : List ℕ) (f : ℕ → ℕ) (n : ℕ) → length (filled table f n) ≡ length table
 unfolding filled
@@ -97,3 +92,25 @@ cells-blank table n size e l h =
     go : (i : ℕ) → i < size → Dec (i < n) → cell (cells (cell table) n size) i ≡ cell table i
     go i m (yes a) = cell-cells (cell table) n size i a l
     go i m (no a) = cell-unused (cell table) n size i (omega arith) ∙ sym (blank-each table n h i (omega arith) (omega arith))
+
+-- ---- a table made cell by cell
+
+cell-of_cells : (f : ℕ → ℕ) (n size i : ℕ) → i < n → i < size → cell (cells f n size) i ≡ f i
+unfolding filled
+cell-of_cells f zero size i l m = absurd (omega arith)
+cell-of_cells f (suc n) size i l m =
+    elim (dec_lt i n) [
+      | yes a ↦ get_or-set_other (cells f n size) n i (f n) 0 (omega arith) ∙ cell-of_cells f n size i a m
+      | no a ↦ let e : n ≡ i = omega arith in
+          rw (← e) (get_or-set_same (cells f n size) n (f n) 0 (omega (arith, length-cells f n size)))
+    ]
+
+-- each cell holds what f says of it
+pub cells-held : {gives : ℕ → ℕ → Type 0} {table : List ℕ} (f : ℕ → ℕ) (n size : ℕ) → ((i x : ℕ) → i < n → gives i x → x ≡ f i)
+    → HoldsCells gives n size table → table ≡ cells f n size
+cells-held {table} f n size says t =
+    ext_get_or 0 table (cells f n size) (t.long ∙ sym (length-cells f n size)) (λ i m. go i (rw t.long at m) (dec_lt i n))
+  where
+    go : (i : ℕ) → i < size → Dec (i < n) → cell table i ≡ cell (cells f n size) i
+    go i m (yes a) = says i _ a (t.each i a m) ∙ sym (cell-of_cells f n size i a m)
+    go i m (no a) = t.others i (omega arith) ∙ sym (cell-unused f n size i (omega arith))

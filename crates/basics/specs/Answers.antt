@@ -1,4 +1,4 @@
--- The answer of every entry in its six numbers; one that does not belong to the outcome is 0. Beside each enum of answers
+-- The answer of every entry in its six numbers; one that does not belong to the outcome is 0. Beside each kind of answer
 -- stands a definition, as `reading_says`, that gives the numbers of each of its cases. `Promise` is that of every entry that
 -- has an output.
 use Rattle.std.specs.Prelude.{ℕ, ◌≡◌, List}

@@ -1,5 +1,5 @@
 -- Tables of a record: `cell` reads one, `cells` is a table with unused cells, `within` and `blank` are what is asked of one.
-use Rattle.std.specs.Prelude.{ℕ, zero, suc, Bool, ◌||◌, List, leb, ltb, eqb, length, get_or, set, replicate}
+use Rattle.std.specs.Prelude.{◌≡◌, ℕ, zero, suc, ◌<◌, ◌≤◌, Bool, ◌||◌, List, leb, ltb, eqb, length, get_or, set, replicate}
 use Rattle.basics.specs.Counting.{all_to}
 
 -- cell i of a table, and 0 past its end
@@ -30,3 +30,9 @@ cell_blank table n i = ltb i n || eqb (cell table i) 0
 -- the cells behind the first n are 0
 unfoldable pub blank : List ℕ → ℕ → Bool
 blank table n = all_to (cell_blank table n) (length table)
+
+-- the table holds in each of its first n cells what `gives` allows there, and 0 in the others
+pub record HoldsCells (gives : ℕ → ℕ → Type 0) (n size : ℕ) (table : List ℕ) : Type 0 where
+  pub long : length table ≡ size
+  pub each : (i : ℕ) → i < n → i < size → gives i (cell table i)
+  pub others : (i : ℕ) → n ≤ i → cell table i ≡ 0

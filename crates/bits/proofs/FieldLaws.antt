@@ -5,7 +5,7 @@ use native.Mathlib.Nat.{mod-lt, pow-suc, add-suc, add-zero, mul_assoc, mul-one, 
 use native.Mathlib.Numerals.{add-one}
 use native.Mathlib.Omega.{arith}
 use mathlib.Core.List.{List}
-use lib.Bits.{bit_and, bit_or, or_shifted, and_mask}
+use lib.Bits.{bit_and, bit_or, or_shifted, and_mask, mask_lt}
 use lib.Dec.{lit<, lit≤}
 use lib.ListN.{length, get_or, get_or-eq_default}
 use lib.Pow.{shl_exact, pow_mono, pow_pos, pow-add, shr_lt, shr-shr, low, high, field as mid}
@@ -20,6 +20,11 @@ bit-lt s i = mod-lt _ (lit< tt)
 pub bit_past : (s : List ℕ) (i : ℕ) → length s ≤ i / 8 → bit s i ≡ 0
 unfolding bit
 bit_past s i h = simp (get_or-eq_default s 0 h, zero-div) refl
+
+-- a bit of a byte, shifted down and masked
+pub bit-masked : (s : List ℕ) (i byte : ℕ) → byte ≡ get_or s (i / 8) 0 → bit_and (byte / 2 ^ (7 - i % 8)) 1 ≡ bit s i
+unfolding bit
+bit-masked s i byte e = rw (← e) (and_mask (byte / 2 ^ (7 - i % 8)) 1)
 
 pub field_lt : (s : List ℕ) (at w : ℕ) → field s at w < 2 ^ w
 unfolding field
@@ -100,3 +105,17 @@ splice-eq x w l v hx hw hl hv =
     let h' : hi * 2 ^ w + v < 2 ^ (m + w) = rw (pow-add 2 m w) (digits_lt h hv) in
     rw (shl_exact m w 32 h (omega arith), or_shifted hi w v hv, shl_exact (m + w) l 32 h' (omega arith), one_shl l (omega arith), and_mask x l)
     (or_shifted (hi * 2 ^ w + v) l (x % 2 ^ l) (mod-lt x (pow_pos l)))
+
+-- of a loop that reads bits, or bytes
+pub ruleset field_laws = (bit_past, bit-masked, field-none, field-push, field-push-byte, field_lt)
+
+-- the last byte of x, by a mask
+pub byte-masked : (x : ℕ) → (bit_and x 255 ≡ x % 256) × (bit_and x 255 < 256)
+byte-masked x = (and_mask x 8, mask_lt x 8)
+
+pub ruleset byte_laws = (byte-masked)
+
+pub one-shl-some : (w : ℕ) → w ≤ 16 → 0 < 1 * 2 ^ w % 2 ^ 32
+one-shl-some w h = rw (one_shl w h) (pow_pos w)
+
+pub ruleset splice_laws = (one-shl-some, splice-eq)

@@ -1,7 +1,7 @@
 -- Laws of `put_field`: what it leaves, what it writes, that this says which list it is, and one put after another.
 use mathlib.Core.Path.{◌≡◌, refl, sym, ap, ap₂, subst, ◌∙◌}
 use Prim.Native.Nat.{ℕ, zero, suc, ◌+◌, ◌*◌, ◌/◌, ◌%◌, ◌-◌, ◌^◌, ◌≤◌, ◌<◌}
-use native.Mathlib.Nat.{zero-add, add_assoc, mod-eq_of_lt, mod-lt, div-add-mod', div-eq_of_lt}
+use native.Mathlib.Nat.{lt_of_lt_of_le, zero-add, add_assoc, mod-eq_of_lt, mod-lt, div-add-mod', div-eq_of_lt}
 use mathlib.Core.Logic.{◌≢◌}
 use native.Mathlib.Decide.{ℕ_discrete}
 use native.Mathlib.Omega.{arith}
@@ -9,7 +9,7 @@ use mathlib.Core.List.{List}
 use lib.Arith.{digits_lt}
 use lib.Dec.{lit<}
 use lib.ListN.{get_or, length, set, length-set}
-use lib.Pow.{pow-add, shr_lt, shr-shr, low, high}
+use lib.Pow.{pow_mono, pow-add, shr_lt, shr-shr, low, high}
 use lib.Seq.{get_or-set_same, get_or-set_other}
 use Rattle.bits.specs.Bits.{bit, field, bytes_of, put_field, Bytes}
 use Rattle.bits.proofs.FieldLaws.{field_lt, field-add, field-byte, field-mid}
@@ -217,3 +217,11 @@ module _ (s : List ℕ) (at w n v : ℕ) (hn : at % 8 + w ≤ 8 * n) (hs : at / 
       let e' : 8 * n ≡ p + w + l = omega arith in
       let f : a + p ≡ at = omega arith in
       ap₂ (put_field s a) e' spliced ∙ put-around s a p w l v bs (omega arith) hv ∙ ap (λ (m : ℕ). put_field s m w v) f
+
+pub ruleset stored_laws = (stored-none, stored_more)
+
+-- as many bits as three bytes have
+pub field-three : (s : List ℕ) (at n : ℕ) → n ≤ 24 → field s at n < 2 ^ 24
+field-three s at n h = lt_of_lt_of_le (field_lt s at n) (pow_mono h)
+
+pub ruleset put_laws = (field-three, spliced-lt, put-bytes)

@@ -166,7 +166,7 @@ bit-append-add a b i =
     let r : (8 * length a + i) % 8 ≡ i % 8 = omega arith in
     rw (q, r, get_or-append-add a b (i / 8) 0)
 
-bit-append : (a b : List ℕ) (i : ℕ) → i < 8 * length a → bit (a ++ b) i ≡ bit a i
+pub bit-append : (a b : List ℕ) (i : ℕ) → i < 8 * length a → bit (a ++ b) i ≡ bit a i
 unfolding bit
 bit-append a b i h = rw (get_or-append a b 0 (i / 8) (omega arith))
 

@@ -1,23 +1,25 @@
 -- What the check of a dossier answers: that of its parts where it has no fault (`sound-checked`), and else its fault (`faulty-refused`).
 -- So the dossier of three papers is answered as they are (`packed-checked`), and every dossier without a fault is that of its three
 -- parts (`sound-packed`).
-use Prim.Native.Nat.{ℕ, zero, suc, ◌+◌, ◌-◌, ◌*◌, ◌/◌, ◌^◌, ◌≤◌, ◌<◌}
+use Prim.Native.Nat.{ℕ, zero, suc, ◌+◌, ◌-◌, ◌*◌, ◌^◌, ◌≤◌, ◌<◌}
 use mathlib.Core.Path.{◌≡◌, refl, sym, ap, ap₂, ◌∙◌}
 use mathlib.Core.List.{List, [], ◌++◌, append_assoc, append-nil}
 use native.Mathlib.Decide.{dec_lt}
 use native.Mathlib.Omega.{arith}
 use lib.Dec.{lit<}
-use lib.ListN.{length, get_or, take, drop, length-append, length-drop, take-append-drop, get_or-append, get_or-eq_default}
+use lib.ListN.{length, get_or, take, drop, length-append, length-drop, take-append-drop, get_or-eq_default}
 use lib.Seq.{take_all, length-take-le, get_or-take, drop-drop, take-add, take_at, drop_at}
 use Rattle.basics.specs.Numbers.{paper_dossier}
-use Rattle.bits.specs.Bits.{Bytes, bit, field}
+use Rattle.bits.specs.Bits.{Bytes, field}
 use Rattle.bits.specs.Sheet.{total, pack}
 use Rattle.bits.proofs.FieldLaws.{field-none}
 use Rattle.bits.proofs.PutLaws.{field-cong}
-use Rattle.bits.proofs.SheetLaws.{Fit, Holds, holds-pack, pack-holds, length-pack}
+use Rattle.bits.proofs.SheetLaws.{bit-append, Fit, Holds, holds-pack, pack-holds, length-pack}
 use Rattle.sheets.specs.Limits.{form_bits}
-use Rattle.notes.specs.Check.{check_note}
-use Rattle.notes.specs.declared.Checked.TheVariants.{Refused}
+use Rattle.basics.specs.Faults.{number_of}
+use Rattle.basics.specs.declared.refusals.Fault.{Fault}
+use Rattle.basics.proofs.FaultLaws.{number-some}
+use Rattle.notes.specs.Check.{Checked, Refused, check_note}
 use Rattle.dossiers.specs.Dossier.{dossier_form, zero_bits, length_bits, lengths_at, dossier_head, max_dossier, head_fields, dossier_sheet}
 use Rattle.dossiers.specs.Dossier.{length_in, job_at, plan_at, note_at, note_end, part, job_part, plan_part, note_part, dossier_fault, if_sound, check_dossier}
 use Rattle.dossiers.proofs.PartLaws.{DossierSound, none-dossier, dossier-none}
@@ -31,14 +33,19 @@ unfolding check_dossier if_sound
 faulty-refused s zero e q = absurd (q refl)
 faulty-refused s (suc number) e q = rw e
 
+-- where the code has stopped at its own fault, or gone on to the papers
+pub refused-at : (s : List ℕ) (fault : Fault) → number_of fault ≡ dossier_fault s → Refused (number_of fault) paper_dossier ≡ check_dossier s
+refused-at s fault e = sym (faulty-refused s (number_of fault) (sym e) (number-some fault))
+
+pub goes-on : (s : List ℕ) (r : Checked) → 0 ≡ dossier_fault s → r ≡ check_note (job_part s) (plan_part s) (note_part s) → r ≡ check_dossier s
+goes-on s r e f = f ∙ sym (sound-checked s (sym e))
+
+pub ruleset dossier_laws = (refused-at, goes-on)
+
 -- ---- bytes behind: a field in front of them is the same
 
-bit-ahead : (a b : List ℕ) (i : ℕ) → i < 8 * length a → bit (a ++ b) i ≡ bit a i
-unfolding bit
-bit-ahead a b i h = rw (get_or-append a b 0 (i / 8) (omega arith))
-
 field-ahead : (a b : List ℕ) (at w : ℕ) → at + w ≤ 8 * length a → field (a ++ b) at w ≡ field a at w
-field-ahead a b at w h = field-cong (a ++ b) a at w (λ i l. bit-ahead a b (at + i) (omega arith))
+field-ahead a b at w h = field-cong (a ++ b) a at w (λ i l. bit-append a b (at + i) (omega arith))
 
 -- ---- a header
 

@@ -7,9 +7,7 @@ use Rattle.bits.specs.Bits.{field}
 use Rattle.bits.specs.Sheet.{Field, of, pack}
 use Rattle.sheets.specs.Groups.{runs_out, form_fault}
 use Rattle.sheets.specs.Limits.{form_bits}
-use Rattle.notes.specs.Check.{check_note}
-use Rattle.notes.specs.declared.Checked.{Checked}
-use Rattle.notes.specs.declared.Checked.TheVariants.{Refused}
+use Rattle.notes.specs.Check.{Checked, Refused, check_note}
 
 abbrev pub dossier_form : ℕ
 dossier_form = 4

@@ -1,4 +1,5 @@
 // The dossier's form, widths and limit.
+// A number and no enum, since it is the value of a field.
 pub const DOSSIER_FORM: u32 = 4;
 
 // Zero bits behind the form.

@@ -6,6 +6,7 @@ use mathlib.Core.Bool.{Bool, true, false}
 use mathlib.Core.List.{List, [], ◌∷◌, ◌++◌}
 use native.Mathlib.Nat.{zero-add, zero-div}
 use native.Mathlib.Omega.{arith}
+use Rattle.std.specs.Prelude.{is_some}
 use lib.Dec.{leb, lit<}
 use lib.ListN.{length, take, drop, replicate, length-replicate}
 use lib.Seq.{take_at}
@@ -15,11 +16,10 @@ use Rattle.bits.specs.Bits.{bit, field, put_field, Bytes}
 use Rattle.bits.specs.Sheet.{Field, total, bytes_for, fill, pack, put_all}
 use Rattle.bits.proofs.PutLaws.{put_same, put_right, length-put, bytes-put}
 use Rattle.bits.proofs.SheetLaws.{Fit, total-append, put-append, put-pack, length-pack}
-use Rattle.placing.specs.Closing.{Turn, goes, stops, and_then, goes_if, in_turn, closable, split_on}
+use Rattle.placing.specs.Closing.{Claim, Turn, goes, stops, and_then, goes_if, in_turn, closable, split_on}
 use Rattle.placing.specs.Options.{none}
 use Rattle.placing.specs.Placing.{Placing}
 use Rattle.placing.specs.declared.Board.{Board}
-use Rattle.placing.specs.declared.Claim.{Claim}
 use Rattle.notes.specs.NoteSheet.{close_mark, split_mark, head_fields, split_bits}
 use Rattle.house.specs.House.{next_op, write_if, write, added, house_fields}
 use Rattle.house.specs.Writing.{Draft, draft, drafted, write_at, draft_from}
@@ -138,7 +138,7 @@ front-pack size fs fit l =
 pub draft-from : (base : List ℕ) (b : Board) (claim : Claim) (room : ℕ) → draft_from b claim room base ≡ mapped base (house_fields b claim room)
 unfolding draft_from house_fields put_all total
 draft-from base b claim room =
-    let head : List Field = head_fields claim.plan in
+    let head : List Field = head_fields (is_some claim) in
     ap (λ (t : Turn Draft). and_then t (write_at room split_bits b claim b.n none)) (draft-added base room head [])
     ∙ mapped-then base (added room head []) (write Placing (closable b claim) (next_op b) (split_on b) split_bits (added room) b.n none) (write_at room split_bits b claim b.n none)
     (draft-write base room Placing (closable b claim) (next_op b) (split_on b) split_bits b.n none)

@@ -3,7 +3,7 @@
 -- the rules (`none-closes`); and where it closes, none costs less (`closed-least` in placing's ClosingLaws). Its marks fit their widths
 -- (`house-widths`).
 use Prim.Native.Nat.{ℕ, zero, suc, ◌-◌, ◌^◌, ◌≤◌, ◌<◌}
-use mathlib.Core.Path.{◌≡◌, refl, sym, ap, subst, ◌∙◌}
+use mathlib.Core.Path.{◌≡◌, sym, ap, subst, ◌∙◌}
 use mathlib.Core.Bool.{true}
 use mathlib.Core.List.{List}
 use native.Mathlib.Decide.{ℕ_discrete}
@@ -15,17 +15,16 @@ use Rattle.bits.proofs.SheetLaws.{Fit}
 use Rattle.sheets.specs.JobSheet.{read_job}
 use Rattle.sheets.specs.declared.Job.{Job}
 use Rattle.sheets.specs.declared.Plan.{Plan}
-use Rattle.sheets.specs.declared.Reading.TheVariants.{Read}
+use Rattle.sheets.specs.Answers.{Read}
 use Rattle.rules.specs.Judge.{plan_cost}
 use Rattle.rules.specs.Meets.{Meets}
 use Rattle.placing.specs.Board.{board_of, OfJob}
 use Rattle.placing.specs.Bound.{All}
-use Rattle.placing.specs.Closing.{unplaced, closable, choice, split_on, ClosesBoard}
+use Rattle.placing.specs.Closing.{Claim, unplaced, closable, choice, split_on, ClosesBoard}
 use Rattle.placing.specs.Options.{none, children}
 use Rattle.placing.specs.Placing.{Placing, cost}
 use Rattle.placing.specs.Plans.{plan_from}
 use Rattle.placing.specs.declared.Board.{Board}
-use Rattle.placing.specs.declared.Claim.{Claim}
 use Rattle.placing.proofs.BoardLaws.{few-ops}
 use Rattle.placing.proofs.BoundLaws.{all_map}
 use Rattle.placing.proofs.ClosingLaws.{says-allowed}
@@ -104,7 +103,7 @@ module _ (sheet : List ℕ) (j : Job) (read : read_job sheet ≡ record { answer
   cheapest-closes c least =
       board-closes (board_of j) (of-job sheet j read) (plan_claim c) (λ leaf m.
       let w = leaf-plan leaf m in
-      says-allowed (plan_claim c) (cost (board_of j) leaf) refl (omega (arith, w.1, least (plan_from (board_of j) leaf) w.0)))
+      says-allowed (plan_claim c) (cost (board_of j) leaf) (omega (arith, w.1, least (plan_from (board_of j) leaf) w.0)))
 
   pub none-closes : ((q : Plan) → Meets j q → ⊥) → ClosesBoard (board_of j) no_claim (board_of j).n none (house_tree_of (board_of j) no_claim)
   none-closes no-plan =

@@ -21,7 +21,7 @@ use Rattle.house.specs.House.{tree_if, trees_of, write_if, house_tree, write, ad
 
 module _ {A : Type 0} where
   never : {P : Type 0} (number : ℕ) (x : A) → stops number ≡ goes x → P
-  never number x e = absurd (let z : ◌≡◌ {A = ℕ} 0 1 = cc in omega arith)
+  never number x e = absurd (cc)
 
   pub then-goes : (t : Turn A) (f : A → Turn A) (y : A) → and_then t f ≡ goes y → (x : A) × (t ≡ goes x) × (f x ≡ goes y)
   unfolding and_then

@@ -4,10 +4,10 @@
 -- Every answer but written leaves the output (`untouched`).
 use Prim.Native.Nat.{ℕ, ◌≤◌, ◌<◌, min}
 use mathlib.Core.Path.{◌≡◌, refl, sym, ap, subst, ◌∙◌}
-use mathlib.Core.Bool.{true≢false}
 use mathlib.Core.List.{List, [], ◌++◌}
 use mathlib.Core.Logic.{◌⊎◌, inl, inr, ⊎_elim}
 use native.Mathlib.Omega.{arith}
+use Rattle.std.specs.Prelude.{is_some}
 use lib.ListN.{length, take, drop}
 use lib.Seq.{take_at}
 use Rattle.basics.specs.Numbers.{output_short, cheaper, paper_note, paper_request}
@@ -16,27 +16,21 @@ use Rattle.bits.proofs.SheetLaws.{total-append, length-pack}
 use Rattle.sheets.specs.JobSheet.{read_job}
 use Rattle.sheets.specs.declared.Job.{Job}
 use Rattle.sheets.specs.declared.Plan.{Plan}
-use Rattle.sheets.specs.declared.Reading.TheVariants.{Read}
-use Rattle.sheets.specs.declared.Written.{Written}
-use Rattle.sheets.specs.declared.Written.TheVariants.{Wrote, Refused}
+use Rattle.sheets.specs.Answers.{Read, Written, Wrote, Refused}
 use Rattle.rules.specs.Judge.{plan_cost}
 use Rattle.rules.specs.Meets.{Meets, Passes}
 use Rattle.placing.specs.Board.{board_of, OfJob}
-use Rattle.placing.specs.Closing.{Turn, goes, stops, and_then, closable, choice, split_on, ClosesBoard}
+use Rattle.placing.specs.Closing.{Claim, Turn, goes, stops, and_then, closable, choice, split_on, ClosesBoard}
 use Rattle.placing.specs.Options.{none}
 use Rattle.placing.specs.Placing.{Placing}
 use Rattle.placing.specs.declared.Board.{Board}
-use Rattle.placing.specs.declared.Claim.{Claim}
 use Rattle.placing.proofs.BoardLaws.{few-ops}
 use Rattle.placing.proofs.ClosingLaws.{closed-least}
 use Rattle.placing.proofs.LeafMeets.{of-job}
 use Rattle.placing.proofs.OptionLaws.{Met, none-met}
 use Rattle.notes.specs.Accepted.{ClosingNote, CheapestPlan, NoPlan}
-use Rattle.notes.specs.Check.{plan_claim, no_claim, asked, accept_if, checked, check_claim, check_note}
+use Rattle.notes.specs.Check.{Claimed, Claims, Unclaimed, Cheapest, Nothing, plan_claim, no_claim, asked, accepted, checked, check_claim, check_note}
 use Rattle.notes.specs.NoteSheet.{head_fields, marks, note_fields, split_bits, max_note, note_sheet}
-use Rattle.notes.specs.declared.Checked.TheVariants.{Cheapest, Nothing}
-use Rattle.notes.specs.declared.Claimed.{Claimed}
-use Rattle.notes.specs.declared.Claimed.TheVariants.{Claims, Refused as Unclaimed}
 use Rattle.notes.proofs.ClaimLaws.{asked-read, claimed-passes, claimed-none, claimed-either}
 use Rattle.notes.proofs.NoteLaws.{note-no-fault}
 use Rattle.house.specs.House.{next_op, house_tree_of, house_sheet, write, added, house_fields, room_of, paper_if, stopped_by, written_by, out_by, write_claim, claim_out, write_note, note_out}
@@ -50,11 +44,11 @@ module _ (b : Board) (of : OfJob b) (claim : Claim) where
   HouseCloses = ClosesBoard b claim b.n none (house_tree_of b claim)
 
   abbrev fields : List Field
-  fields = note_fields split_bits claim.plan (house_tree_of b claim)
+  fields = note_fields split_bits (is_some claim) (house_tree_of b claim)
 
   module _ (room : ℕ) where
     abbrev head : List Field
-    head = head_fields claim.plan
+    head = head_fields (is_some claim)
 
     abbrev writing : List Field → Turn (List Field)
     writing so_far = write Placing (closable b claim) (next_op b) (split_on b) split_bits (added room) b.n none so_far
@@ -130,17 +124,13 @@ abbrev size_in : Written → ℕ
 size_in (Wrote size) = size
 size_in (Refused number paper) = 0
 
-abbrev is_wrote : Written → ℕ
-is_wrote (Wrote size) = 1
-is_wrote (Refused number paper) = 0
-
 stopped-not : {A : Type 0} (number n : ℕ) → stopped_by number ≡ Wrote n → A
 unfolding stopped_by
-stopped-not number n e = absurd (let z : 0 ≡ 1 = ap is_wrote e in omega arith)
+stopped-not number n e = absurd (cc)
 
-length-house : (b : Board) (claim : Claim) → length (house_sheet b claim) ≡ bytes_for (total (note_fields split_bits claim.plan (house_tree_of b claim)))
+length-house : (b : Board) (claim : Claim) → length (house_sheet b claim) ≡ bytes_for (total (note_fields split_bits (is_some claim) (house_tree_of b claim)))
 unfolding note_sheet
-length-house b claim = length-pack (note_fields split_bits claim.plan (house_tree_of b claim))
+length-house b claim = length-pack (note_fields split_bits (is_some claim) (house_tree_of b claim))
 
 min-le : (a b : ℕ) → (min a b ≤ a) × (min a b ≤ b)
 min-le a b = (omega arith, omega arith)
@@ -251,7 +241,7 @@ wrote-claimed job plan room n e = go (asked job plan).claimed refl
   where
     go : (x : Claimed) → (asked job plan).claimed ≡ x → (claim : Claim) × (x ≡ Claims claim)
     go (Claims claim) q = (claim, refl)
-    go (Unclaimed number paper) q = absurd (let r : Refused number paper ≡ Wrote n = rw q at e in let z : 0 ≡ 1 = ap is_wrote r in omega arith)
+    go (Unclaimed number paper) q = absurd (let r : Refused number paper ≡ Wrote n = rw q at e in cc)
 
 -- ---- where a plan is cheaper, and where there is one
 
@@ -261,13 +251,13 @@ not-cheapest job plan before c w q m l =
     let j : Job = w.as_job in
     let read = w.job_read in
     never-written job plan (plan_claim c) j read ((claimed-passes job plan c).1 w) before (λ h.
-    omega (arith, (closed-least job j read (plan_claim c) (house_tree_of (board_of j) (plan_claim c)) h q m).1))
+    omega (arith, closed-least job j read (plan_claim c) (house_tree_of (board_of j) (plan_claim c)) h q m))
 
 pub not_none : (job plan before : List ℕ) (j : Job) → read_job job ≡ record { answer = Read; job = j } → plan ≡ [] → (q : Plan) → Meets j q
     → NeverWritten job plan before (house_sheet (board_of j) no_claim)
 not_none job plan before j read p q m =
     never-written job plan no_claim j read ((claimed-none job plan).1 (p, (j, read))) before (λ h.
-    true≢false (sym (closed-least job j read no_claim (house_tree_of (board_of j) no_claim) h q m).0))
+    closed-least job j read no_claim (house_tree_of (board_of j) no_claim) h q m)
 
 -- ---- every answer but written leaves the output
 
@@ -276,7 +266,7 @@ unfolding write_note note_out write_claim claim_out written_by out_by
 untouched job plan before number paper e = go (asked job plan).claimed (asked job plan).job e
   where
     turn : (t : Turn (List Field)) → written_by t ≡ Refused number paper → out_by t before ≡ before
-    turn (goes fs) e = absurd (let z : 1 ≡ 0 = ap is_wrote e in omega arith)
+    turn (goes fs) e = absurd (cc)
     turn (stops k) e = refl
 
     go : (x : Claimed) (j : Job) → write_claim x j (length before) ≡ Refused number paper → claim_out x j before ≡ before
@@ -289,7 +279,7 @@ module _ (job plan before : List ℕ) (n : ℕ) (wrote : write_note job plan (le
   abbrev note_left : List ℕ
   note_left = take n (note_out job plan before)
 
-  checked-so : (claim : Claim) → (asked job plan).claimed ≡ Claims claim → check_note job plan note_left ≡ accept_if claim.plan claim.cost
+  checked-so : (claim : Claim) → (asked job plan).claimed ≡ Claims claim → check_note job plan note_left ≡ accepted claim
   unfolding check_note check_claim checked
   checked-so claim e =
       let j : Job = (asked job plan).job in
@@ -298,10 +288,10 @@ module _ (job plan before : List ℕ) (n : ℕ) (wrote : write_note job plan (le
 
   -- as the claim has it: a plan that passes is a cheapest one, and beside no plan there is none
   pub written-accepted : ((c : ℕ) × Passes job plan c × (check_note job plan note_left ≡ Cheapest c)) ⊎ ((plan ≡ []) × (check_note job plan note_left ≡ Nothing))
-  unfolding accept_if
+  unfolding accepted
   written-accepted =
       let (claim, e) = wrote-claimed job plan (length before) n wrote in
       ⊎_elim
-      (λ s. let e' = e ∙ ap Claims s in inl (claim.cost, (claimed-passes job plan claim.cost).0 e', checked-so (plan_claim claim.cost) e'))
+      (λ s. let e' = e ∙ ap Claims s.1 in inl (s.0, (claimed-passes job plan s.0).0 e', checked-so (plan_claim s.0) e'))
       (λ s. let e' = e ∙ ap Claims s in inr (((claimed-none job plan).0 e').0, checked-so no_claim e'))
       (claimed-either job plan claim e)

@@ -1,106 +1,65 @@
 -- What the proofs of the writers need: what a place writes before its children, and what a call's promise says of the definition's turn.
-use Prim.Native.Nat.{ℕ, zero, suc, ◌+◌, ◌-◌, ◌≤◌, ◌<◌}
+use Prim.Native.Nat.{ℕ, suc, ◌+◌, ◌-◌, ◌≤◌, ◌<◌}
 use mathlib.Core.Path.{◌≡◌, refl, sym, ap, subst, ◌∙◌}
 use mathlib.Core.Bool.{Bool, true, false}
-use mathlib.Core.List.{List, [], ◌∷◌, ◌++◌}
+use mathlib.Core.List.{List}
 use native.Mathlib.Decide.{ℕ_discrete}
-use native.Mathlib.Numerals.{add-one}
 use native.Mathlib.Omega.{arith}
 use borrow.Author.Tests.{le-leb, lt-leb}
-use lib.ListN.{length, get_or, set, take, drop}
+use lib.ListN.{length}
 use lib.Seq.{get_or-set_same, get_or-set_other}
+use Rattle.std.specs.Prelude.{Result, Ok, Err}
+use Rattle.basics.specs.Faults.{number_of}
 use Rattle.basics.specs.Numbers.{output_short, cheaper}
+use Rattle.basics.specs.declared.refusals.Fault.{Fault}
 use Rattle.bits.specs.Bits.{put_field}
 use Rattle.bits.specs.Sheet.{total, put_all}
 use Rattle.bits.proofs.PutLaws.{length-put}
 use Rattle.sheets.specs.Limits.{op_cells}
-use Rattle.placing.specs.Closing.{Turn, goes, stops, and_then, goes_if, if_live, in_turn, closable, split_on}
+use Rattle.placing.specs.Closing.{Claim, Turn, goes, stops, and_then, goes_if, in_turn, closable, split_on}
 use Rattle.placing.specs.Options.{put}
 use Rattle.placing.specs.Placing.{Placing}
 use Rattle.placing.specs.Ready.{option_at, Ready}
 use Rattle.placing.specs.declared.Board.{Board}
-use Rattle.placing.specs.declared.Claim.{Claim}
 use Rattle.notes.specs.NoteSheet.{mark_bits, close_mark, split_mark}
-use Rattle.notes.specs.Reading.{branch_of}
-use Rattle.notes.specs.declared.Branch.{Branch}
-use Rattle.notes.specs.declared.Branch.TheVariants.{Closed, Refused}
-use Rattle.notes.proofs.ReadLaws.{closed-turn, refused-turn}
+use Rattle.notes.specs.Reading.{turn_of}
 use Rattle.house.specs.House.{next_op, write_if, write}
-use Rattle.house.specs.Writing.{Draft, draft, drafted, write_at, draft_end, InOrder, Writes}
+use Rattle.house.specs.Writing.{Draft, draft, drafted, write_at, draft_end, InOrder, Drafts}
 use Rattle.house.proofs.HouseBoard.{lowest-next}
 
 -- ---- a promise and the definition's turn
 
-abbrev at_of : Turn ℕ → ℕ
-at_of (goes at) = at
-at_of (stops number) = number
-
-pub closed-draft : {r : Branch} {sheet' : List ℕ} {end : ℕ} (t : Turn Draft) → r ≡ branch_of (draft_end t) → ((x : Draft) → t ≡ goes x → sheet' ≡ x.bytes)
-    → r ≡ Closed end → t ≡ goes (draft sheet' end)
-closed-draft (goes x) e f q =
-    let a = closed-turn (goes x.at) e q in
+pub closed-draft : {sheet' : List ℕ} {end : ℕ} (t : Turn Draft) → goes end ≡ draft_end t → ((x : Draft) → t ≡ goes x → sheet' ≡ x.bytes) → t ≡ goes (draft sheet' end)
+closed-draft {sheet'} {end} (goes x) e f =
+    let a : x.at ≡ end = cc in
     let b = f x refl in
-    λ i. goes (draft (sym b i) (at_of (a i)))
-closed-draft (stops number) e f q = absurd (let z = closed-turn (stops number) e q in let y : ◌≡◌ {A = ℕ} 0 1 = cc in omega arith)
+    λ i. goes (draft (sym b i) (a i))
+closed-draft (stops number) e f = cc
 
-pub refused-draft : {r : Branch} {number : ℕ} (t : Turn Draft) → r ≡ branch_of (draft_end t) → r ≡ Refused number → t ≡ stops number
-refused-draft (goes x) e q = absurd (let z = refused-turn (goes x.at) e q in let y : ◌≡◌ {A = ℕ} 0 1 = cc in omega arith)
-refused-draft (stops k) e q = ap stop_in (refused-turn (stops k) e q)
-  where
-    stop_in : Turn ℕ → Turn Draft
-    stop_in (goes at) = stops at
-    stop_in (stops number) = stops number
+pub stopped-draft : {number : ℕ} (t : Turn Draft) → stops number ≡ draft_end t → t ≡ stops number
+stopped-draft (goes x) e = cc
+stopped-draft (stops k) e = cc
 
 -- ---- the ends of a place
 
-module _ {room : ℕ} {t : Turn Draft} {r : Branch} {sheet sheet' : List ℕ} {p p' : Placing} {lows lows' : List ℕ} (long : length sheet' ≡ length sheet) (rows : p' ≡ p)
-    (low : lows' ≡ lows) where
-  pub ends-stopped : {number : ℕ} → r ≡ Refused number → t ≡ stops number → Writes room t r sheet sheet' p p' lows lows'
-  ends-stopped {number} q e =
-      record {
-        answers = q ∙ sym (ap (λ (x : Turn Draft). branch_of (draft_end x)) e);
-        bytes = λ x f. absurd (let z : stops number ≡ goes x = sym e ∙ f in let y : ◌≡◌ {A = ℕ} 0 1 = cc in omega arith);
-        inside = λ end f. absurd (let z = refused-turn (goes end) f q in let y : ◌≡◌ {A = ℕ} 0 1 = cc in omega arith);
-        size = long;
-        same = rows;
-        same-lows = low;
-      }
+module _ {room : ℕ} {t : Turn Draft} {sheet sheet' : List ℕ} (long : length sheet' ≡ length sheet) where
+  pub ends-stopped : (fault : Fault) → t ≡ stops (number_of fault) → Drafts room t (Err fault) sheet sheet'
+  ends-stopped fault e = record { answers = rw e; bytes = λ x f. absurd (cc); inside = λ end f. absurd (cc); size = long }
 
-  pub ends-closed : {end : ℕ} → r ≡ Closed end → t ≡ goes (draft sheet' end) → end ≤ room → Writes room t r sheet sheet' p p' lows lows'
-  ends-closed {end} q e l =
-      record {
-        answers = q ∙ sym (ap (λ (x : Turn Draft). branch_of (draft_end x)) e);
-        bytes = λ x f. let z : goes (draft sheet' end) ≡ goes x = sym e ∙ f in ap (λ (y : Turn Draft). bytes_in sheet' y) z;
-        inside = λ end' f. let z : end ≡ end' = ap at_of (closed-turn (goes end) q f) in omega arith;
-        size = long;
-        same = rows;
-        same-lows = low;
-      }
-    where
-      bytes_in : List ℕ → Turn Draft → List ℕ
-      bytes_in other (goes x) = x.bytes
-      bytes_in other (stops number) = other
+  pub ends-closed : {end : ℕ} → t ≡ goes (draft sheet' end) → end ≤ room → Drafts room t (Ok end) sheet sheet'
+  ends-closed {end} e l = record { answers = rw e; bytes = λ x f. cc; inside = λ end' f. let z : end ≡ end' = cc in omega arith; size = long }
+
+-- what goes on from a mark
+pub drafts-on : {room : ℕ} {t u : Turn Draft} {r : Result ℕ Fault} {sheet sheet₁ sheet' : List ℕ} → length sheet₁ ≡ length sheet → t ≡ u → Drafts room u r sheet₁ sheet'
+    → Drafts room t r sheet sheet'
+drafts-on l e w = record { answers = w.answers ∙ ap draft_end (sym e); bytes = λ x f. w.bytes x (sym e ∙ f); inside = w.inside; size = w.size ∙ l }
 
 -- all placed
-pub leaf-writes : (may : Bool) (at : ℕ) {room : ℕ} {t : Turn Draft} {r : Branch} {sheet : List ℕ} {p : Placing} {lows : List ℕ} → t ≡ goes_if may cheaper (draft sheet at) → at ≤ room
-    → r ≡ branch_of (goes_if may cheaper at) → Writes room t r sheet sheet p p lows lows
+pub leaf-drafts : (r : Result ℕ Fault) (may : Bool) (at : ℕ) {room : ℕ} {t : Turn Draft} {sheet : List ℕ} → t ≡ goes_if may cheaper (draft sheet at) → at ≤ room
+    → turn_of r ≡ goes_if may cheaper at → Drafts room t r sheet sheet
 unfolding goes_if
-leaf-writes may at {room} {t} {r} {sheet} {p} {lows} e l q = go may e q
-  where
-    go : (m : Bool) → t ≡ goes_if m cheaper (draft sheet at) → r ≡ branch_of (goes_if m cheaper at) → Writes room t r sheet sheet p p lows lows
-    go true e q = ends-closed refl refl refl q e l
-    go false e q = ends-stopped refl refl refl q e
-
--- an option that is not live is passed over, and a live one is a place
-pub dead-writes : (t : Turn Draft) {room at : ℕ} {test : Bool} {sheet : List ℕ} {p : Placing} {lows : List ℕ} → test ≡ false → at ≤ room
-    → Writes room (if_live test t (draft sheet at)) (Closed at) sheet sheet p p lows lows
-unfolding if_live
-dead-writes t e l = ends-closed refl refl refl refl (rw e) l
-
-pub live-writes : (x : Draft) {room : ℕ} {t : Turn Draft} {r : Branch} {test : Bool} {sheet sheet' : List ℕ} {p p' : Placing} {lows lows' : List ℕ} → test ≡ true
-    → Writes room t r sheet sheet' p p' lows lows' → Writes room (if_live test t x) r sheet sheet' p p' lows lows'
-unfolding if_live
-live-writes x e w = rw e w
+leaf-drafts r true at e l q = record { answers = rw e q; bytes = λ x f. cc; inside = λ end f. let z : end ≡ at = cc in omega arith; size = refl }
+leaf-drafts r false at e l q = record { answers = rw e q; bytes = λ x f. absurd (cc); inside = λ end f. absurd (cc); size = refl }
 
 -- ---- a place before its children
 
@@ -150,9 +109,6 @@ split-length sheet at w op e = ap length e ∙ length-put (put_field sheet at ma
 
 -- ---- in number order
 
-pub op-less : {b : Board} {op here : ℕ} {p : Placing} {lows : List ℕ} → Ready b op p lows here → (op ≡ b.n → ⊥) → op < b.n
-op-less w h = omega (arith, w.few, h)
-
 pub last_less : {op n : ℕ} → op < n → op ≡ n → ⊥
 last_less l e = omega arith
 
@@ -171,14 +127,3 @@ next-order i {op} {s} {p} o l k b =
 
 pub same-order : {op : ℕ} {p p' : Placing} → p' ≡ p → InOrder p op → InOrder p' op
 same-order {op} e o = subst (λ (q : Placing). InOrder q op) (sym e) o
-
--- ---- a byte more is copied
-
-pub copied : (sheet out : List ℕ) (i : ℕ) → i < length sheet → i < length out → set (take i sheet ++ drop i out) i (get_or sheet i 0) ≡ take (i + 1) sheet ++ drop (i + 1) out
-copied sheet out i l k = rw (add-one i) (go sheet out i l k)
-  where
-    go : (s o : List ℕ) (i : ℕ) → i < length s → i < length o → set (take i s ++ drop i o) i (get_or s i 0) ≡ take (suc i) s ++ drop (suc i) o
-    go [] o i l k = absurd (omega arith)
-    go (x ∷ s) [] i l k = absurd (omega arith)
-    go (x ∷ s) (y ∷ o) zero l k = refl
-    go (x ∷ s) (y ∷ o) (suc i) l k = ap (λ (r : List ℕ). x ∷ r) (go s o i (omega arith) (omega arith))

@@ -3,23 +3,19 @@
 --     write      the walk that writes it, mark by mark, and stops at the first mark for which there is no room (22) or where all is
 --                placed and may not be closed (44)
 -- `write_note` and `note_out` are what the house writer answers for any bytes, and the output's bytes after it.
-use Rattle.std.specs.Prelude.{ℕ, zero, suc, ◌+◌, ◌*◌, min, Bool, true, false, List, [], ◌∷◌, ◌++◌, leb, ltb, eqb, length, drop}
+use Rattle.std.specs.Prelude.{ℕ, zero, suc, ◌+◌, ◌*◌, min, Bool, true, false, List, [], ◌∷◌, ◌++◌, leb, ltb, eqb, is_some, length, drop}
 use Rattle.basics.specs.Numbers.{output_short, cheaper, paper_note, paper_request}
 use Rattle.bits.specs.Sheet.{Field, total, bytes_for, pack}
 use Rattle.sheets.specs.declared.Job.{Job}
-use Rattle.sheets.specs.declared.Written.{Written}
-use Rattle.sheets.specs.declared.Written.TheVariants.{Wrote, Refused}
+use Rattle.sheets.specs.Answers.{Written, Wrote, Refused}
 use Rattle.rules.specs.Rules.{placed}
 use Rattle.placing.specs.Board.{board_of}
-use Rattle.placing.specs.Closing.{Tree, Trees, whole, close, split, no_more, ◌then◌, Turn, goes, stops, and_then, goes_if, in_turn, closable, split_on}
+use Rattle.placing.specs.Closing.{Claim, Tree, Trees, whole, close, split, no_more, ◌then◌, Turn, goes, stops, and_then, goes_if, in_turn, closable, split_on}
 use Rattle.placing.specs.Options.{none}
 use Rattle.placing.specs.Placing.{Placing}
 use Rattle.placing.specs.declared.Board.{Board}
-use Rattle.placing.specs.declared.Claim.{Claim}
-use Rattle.notes.specs.Check.{asked}
+use Rattle.notes.specs.Check.{Claimed, Claims, Unclaimed, asked}
 use Rattle.notes.specs.NoteSheet.{close_mark, split_mark, head_fields, note_sheet, split_bits, max_note}
-use Rattle.notes.specs.declared.Claimed.{Claimed}
-use Rattle.notes.specs.declared.Claimed.TheVariants.{Claims, Refused as Unclaimed}
 
 -- ---- over any problem, where `next` is the choice that a node is split on
 
@@ -68,7 +64,7 @@ house_tree_of b claim = house_tree Placing (closable b claim) (next_op b) (split
 
 -- the house note of a claim
 abbrev pub house_sheet : Board → Claim → List ℕ
-house_sheet b claim = note_sheet claim.plan (house_tree_of b claim)
+house_sheet b claim = note_sheet (is_some claim) (house_tree_of b claim)
 
 -- fields behind those so far, where `room` bits hold them all
 unfoldable pub added : ℕ → List Field → List Field → Turn (List Field)
@@ -77,7 +73,7 @@ added room fs so_far = goes_if (leb (total so_far + total fs) room) output_short
 -- the header is the first mark
 unfoldable pub house_fields : Board → Claim → ℕ → Turn (List Field)
 house_fields b claim room =
-    and_then (added room (head_fields claim.plan) [])
+    and_then (added room (head_fields (is_some claim)) [])
     (write Placing (closable b claim) (next_op b) (split_on b) split_bits (added room) b.n none)
 
 -- ---- the house writer
@@ -103,7 +99,7 @@ unfoldable pub out_by : Turn (List Field) → List ℕ → List ℕ
 out_by (goes fs) before = pack fs ++ drop (bytes_for (total fs)) before
 out_by (stops number) before = before
 
--- into an output of `room` bytes (`Unclaimed` is the claim's `Refused`)
+-- into an output of `room` bytes
 unfoldable pub write_claim : Claimed → Job → ℕ → Written
 write_claim (Claims claim) j room = written_by (house_fields (board_of j) claim (room_of room))
 write_claim (Unclaimed number paper) j room = Refused number paper

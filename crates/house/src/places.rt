@@ -1,228 +1,144 @@
 // The house tree, written place by place: a mark, and then the children of a split, each child again a place.
 ghost use Rattle.std.specs.Prelude.{◌≡◌, ◌+◌, ◌-◌, ◌*◌, ◌<◌, ◌≤◌, ◌^◌, length};
 ghost use Rattle.bits.specs.Sheet.{put_all};
+ghost use Rattle.placing.specs.Closing.{in_turn, split_on};
 ghost use Rattle.placing.specs.Options.{put as put_row};
-ghost use Rattle.placing.specs.Ready.{board_with, placing, option_at, Ready, Tries, Settles};
-ghost use Rattle.notes.specs.NoteSheet.{split_mark, max_note};
-ghost use Rattle.house.specs.Writing.{draft, write_at, option_write, InOrder, Writes};
+ghost use Rattle.placing.specs.Ready.{placing_of, option_at, Ready, Places};
+ghost use Rattle.notes.specs.NoteSheet.{split_mark, split_bits, max_note};
+ghost use Rattle.house.specs.Writing.{draft, write_at, InOrder, Drafts};
 
-use basics::OUTPUT_SHORT;
+use basics::Fault;
 use bits::put;
-use notes::Branch;
-use notes::limits::MARK_BITS;
+use notes::limits::{MARK_BITS, SPLIT_BITS};
 use notes::reading::closed_if;
-use placing::Claim;
-use placing::boards::NEAR_TABLE;
 use placing::closing::allowed;
-use placing::costing::{cost_with, lower};
-use placing::fitting::{first_start, fits};
-use rules::model::UNIT_CELLS;
-use sheets::limits::*;
+use placing::rows::Rows;
+use placing::{Board, Claim};
 
-// Writes the option of operation op, the lowest unplaced, at step s on instance i, which is a place of its own where it is live, and
-// nothing else. Links are settled or not, as the test of a row has it. A child that is closed at once is not placed.
-#[cycle(write_child_write_place)]
-fn write_child<'a>(
-    n: usize,
-    k: usize,
-    t: u16,
-    e: u16,
-    wire: u16,
-    clock: u16,
-    from: &'a [u16; LINK_CELLS],
-    to: &'a [u16; LINK_CELLS],
-    types: &'a [u16; INST_CELLS],
-    costs: &'a [u16; TYPE_CELLS],
-    times: &'a [u16; UNIT_CELLS],
-    delays: &'a [u16; UNIT_CELLS],
-    spacings: &'a [u16; UNIT_CELLS],
-    lasts: &'a [u16; UNIT_CELLS],
-    near: &'a [u16; NEAR_TABLE],
-    width: usize,
-    claim: Claim,
-    room: usize,
-    at: usize,
-    op: usize,
-    here: u32,
-    s: u16,
-    i: usize,
-    settled: bool,
-    sheet: &mut [u8],
-    starts: &mut [u16; OP_CELLS],
-    insts: &mut [u16; OP_CELLS],
-    lows: &mut [u16; TYPE_CELLS],
-) -> Branch
-    requires { Tries
-        (board_with n k t e wire clock from.now to.now types.now costs.now times.now delays.now spacings.now lasts.now near.now)
-        op op (placing starts.old insts.old) lows.old here s i
-        × Settles delays.now near.now op (placing starts.old insts.old) op s settled
-        × InOrder (placing starts.old insts.old) op
-        × (room ≤ 8 * length sheet.old) × (room ≤ 8 * max_note) × (at ≤ room) × (n ≤ 2 ^ width) × (width ≤ 16) }
-    ensures { Writes room
-        (option_write room width
-        (board_with n k t e wire clock from.now to.now types.now costs.now times.now delays.now spacings.now lasts.now near.now)
-        claim (n - (op + 1)) (put_row (placing starts.old insts.old) op (option_at s i)) (draft sheet.old at))
-        result sheet.old sheet.new (placing starts.old insts.old) (placing starts.new insts.new) lows.old lows.new }
-{
-    if !fits(
-        from, to, e, wire, clock, times, delays, spacings, lasts, near, starts, insts, settled, op,
-        op, s, i,
-    ) {
-        return Branch::Closed(at);
-    }
-    let y = types[i] as usize;
-    let low = lows[y];
-    lows[y] = lower(low, i as u16);
-    let cost = cost_with(types, costs, lows, k, here, low, i);
-    if allowed(claim, cost) & (op + 1 < n) & (at < room) {
-        put(sheet, at, MARK_BITS, 0);
-        lows[y] = low;
-        return Branch::Closed(at + MARK_BITS);
-    }
-    let start_was = starts[op];
-    let inst_was = insts[op];
-    starts[op] = s;
-    insts[op] = i as u16;
-    let branch = write_place(
-        n,
-        k,
-        t,
-        e,
-        wire,
-        clock,
-        from,
-        to,
-        types,
-        costs,
-        times,
-        delays,
-        spacings,
-        lasts,
-        near,
-        width,
-        claim,
-        room,
-        at,
-        op + 1,
-        cost,
-        sheet,
-        starts,
-        insts,
-        lows,
-    );
-    starts[op] = start_was;
-    insts[op] = inst_was;
-    lows[y] = low;
-    branch
+// What stays the same along a tree that is written.
+#[derive(Clone, Copy)]
+pub(crate) struct Writer<'a> {
+    pub(crate) board: &'a Board,
+    pub(crate) claim: Claim,
+    pub(crate) room: usize, // in bits
+    ghost fits: { room ≤ 8 * max_note },
 }
 
 // Writes a split on operation op.
-fn put_split(sheet: &mut [u8], at: usize, width: usize, op: usize)
-    requires { (at + 1 + width ≤ 8 * length sheet.old) × (width ≤ 16) × (op < 2 ^ width) × (at < 2 ^ 32) }
-    ensures { sheet.new ≡ put_all sheet.old at (split_mark width op) }
+fn put_split(sheet: &mut [u8], at: usize, op: usize)
+    requires { (at + 1 + split_bits ≤ 8 * length sheet.old) × (op < 2 ^ split_bits) × (at < 2 ^ 32) }
+    ensures { sheet.new ≡ put_all sheet.old at (split_mark split_bits op) }
 {
     put(sheet, at, MARK_BITS, 1);
-    put(sheet, at + MARK_BITS, width, op as u32);
+    put(sheet, at + MARK_BITS, SPLIT_BITS, op as u32);
 }
 
-// Writes a place at a bit of the sheet, where the operations before op are placed: a mark, and then the children of a split on op.
-#[cycle(write_child_write_place)]
-pub(crate) fn write_place<'a>(
-    n: usize,
-    k: usize,
-    t: u16,
-    e: u16,
-    wire: u16,
-    clock: u16,
-    from: &'a [u16; LINK_CELLS],
-    to: &'a [u16; LINK_CELLS],
-    types: &'a [u16; INST_CELLS],
-    costs: &'a [u16; TYPE_CELLS],
-    times: &'a [u16; UNIT_CELLS],
-    delays: &'a [u16; UNIT_CELLS],
-    spacings: &'a [u16; UNIT_CELLS],
-    lasts: &'a [u16; UNIT_CELLS],
-    near: &'a [u16; NEAR_TABLE],
-    width: usize,
-    claim: Claim,
-    room: usize,
-    at: usize,
-    op: usize,
-    here: u32,
-    sheet: &mut [u8],
-    starts: &mut [u16; OP_CELLS],
-    insts: &mut [u16; OP_CELLS],
-    lows: &mut [u16; TYPE_CELLS],
-) -> Branch
-    requires { Ready
-        (board_with n k t e wire clock from.now to.now types.now costs.now times.now delays.now spacings.now lasts.now near.now)
-        op (placing starts.old insts.old) lows.old here
-        × InOrder (placing starts.old insts.old) op
-        × (room ≤ 8 * length sheet.old) × (room ≤ 8 * max_note) × (at ≤ room) × (n ≤ 2 ^ width) × (width ≤ 16) }
-    ensures { Writes room
-        (write_at room width
-        (board_with n k t e wire clock from.now to.now types.now costs.now times.now delays.now spacings.now lasts.now near.now)
-        claim (n - op) (placing starts.old insts.old) (draft sheet.old at))
-        result sheet.old sheet.new (placing starts.old insts.old) (placing starts.new insts.new) lows.old lows.new }
-{
-    let may = allowed(claim, here);
-    if op == n {
-        return closed_if(may, basics::CHEAPER, at);
-    }
-    if may {
-        if room < at + MARK_BITS {
-            return Branch::Refused(OUTPUT_SHORT);
+impl Writer<'_> {
+    // An option is three numbers, as Board::fits takes it.
+    // Writes the option of operation op, the lowest unplaced, at step s on instance i, which is live and so a place of its own. One
+    // that is closed at once is not placed.
+    #[cycle(child_children_place)]
+    fn child(
+        &self,
+        rows: &mut Rows,
+        sheet: &mut [u8],
+        at: usize,
+        op: usize,
+        here: u32,
+        s: u16,
+        i: usize,
+    ) -> Result<usize, Fault>
+        requires places { Places self.now.board.now op op (placing_of rows.old) rows.old.lows here s i }
+        requires order { InOrder (placing_of rows.old) op }
+        requires room { (at ≤ self.now.room) × (self.now.room ≤ 8 * length sheet.old) }
+        ensures drafts { let w = self.now in Drafts w.room
+            (write_at w.room split_bits w.board.now w.claim (w.board.now.n - (op + 1)) (put_row (placing_of rows.old) op (option_at s i)) (draft sheet.old at))
+            result sheet.old sheet.new }
+        ensures same { rows.new ≡ rows.old }
+    {
+        let board = self.board;
+        let low = rows.lower(board, i);
+        let cost = board.cost_with(rows, here, low, i);
+        if allowed(self.claim, cost) && op + 1 < board.n as usize && at < self.room {
+            put(sheet, at, MARK_BITS, 0);
+            rows.raise(board, i, low);
+            return Ok(at + MARK_BITS);
         }
-        put(sheet, at, MARK_BITS, 0);
-        return Branch::Closed(at + MARK_BITS);
+        let was = rows.place(op, s, i);
+        let end = self.place(rows, sheet, at, op + 1, cost);
+        rows.take_back(op, was);
+        rows.raise(board, i, low);
+        end
     }
-    if room < at + MARK_BITS + width {
-        return Branch::Refused(OUTPUT_SHORT);
-    }
-    put_split(sheet, at, width, op);
-    let mut next = at + MARK_BITS + width;
-    let first = first_start(delays, near, starts, insts, op);
-    let mut s = first;
-    while s <= t as u32 {
-        let mut i: usize = 0;
-        while i < k {
-            let branch = write_child(
-                n,
-                k,
-                t,
-                e,
-                wire,
-                clock,
-                from,
-                to,
-                types,
-                costs,
-                times,
-                delays,
-                spacings,
-                lasts,
-                near,
-                width,
-                claim,
-                room,
-                next,
-                op,
-                here,
-                s as u16,
-                i,
-                first < s,
-                sheet,
-                starts,
-                insts,
-                lows,
-            );
-            let Branch::Closed(end) = branch else {
-                return branch;
-            };
-            next = end;
-            i += 1;
+
+    // The two loops of the reader again, and of the walk: one for all would take a closure that changes rows and sheet.
+    // Writes the children of a split on operation op, the lowest unplaced: a place for each option that is live.
+    #[cycle(child_children_place)]
+    fn children(
+        &self,
+        rows: &mut Rows,
+        sheet: &mut [u8],
+        at: usize,
+        op: usize,
+        here: u32,
+    ) -> Result<usize, Fault>
+        requires ready { Ready self.now.board.now op (placing_of rows.old) rows.old.lows here }
+        requires more { op < self.now.board.now.n }
+        requires order { InOrder (placing_of rows.old) op }
+        requires room { (at ≤ self.now.room) × (self.now.room ≤ 8 * length sheet.old) }
+        ensures drafts { let w = self.now in Drafts w.room
+            (in_turn (write_at w.room split_bits w.board.now w.claim (w.board.now.n - (op + 1))) (split_on w.board.now (placing_of rows.old) op) (draft sheet.old at))
+            result sheet.old sheet.new }
+        ensures same { rows.new ≡ rows.old }
+    {
+        let board = self.board;
+        let mut next = at;
+        let first = board.first_start(rows, op);
+        for s in first..=board.t as u32 {
+            for i in 0..board.k as usize {
+                if !board.fits(rows, first < s, op, op, s as u16, i) {
+                    continue;
+                }
+                next = self.child(rows, sheet, next, op, here, s as u16, i)?;
+            }
         }
-        s += 1;
+        Ok(next)
     }
-    Branch::Closed(next)
+
+    // What is asked of rows and of the bit changes from place to place, so it stands in each contract and not in a type.
+    // Writes a place at a bit of the sheet, where the operations before op are placed: a mark, and then the children of a split on op.
+    #[cycle(child_children_place)]
+    pub(crate) fn place(
+        &self,
+        rows: &mut Rows,
+        sheet: &mut [u8],
+        at: usize,
+        op: usize,
+        here: u32,
+    ) -> Result<usize, Fault>
+        requires ready { Ready self.now.board.now op (placing_of rows.old) rows.old.lows here }
+        requires order { InOrder (placing_of rows.old) op }
+        requires room { (at ≤ self.now.room) × (self.now.room ≤ 8 * length sheet.old) }
+        ensures drafts { let w = self.now in Drafts w.room
+            (write_at w.room split_bits w.board.now w.claim (w.board.now.n - op) (placing_of rows.old) (draft sheet.old at))
+            result sheet.old sheet.new }
+        ensures same { rows.new ≡ rows.old }
+    {
+        let may = allowed(self.claim, here);
+        if op == self.board.n as usize {
+            return closed_if(may, Fault::Cheaper, at);
+        }
+        if may {
+            if self.room < at + MARK_BITS {
+                return Err(Fault::OutputShort);
+            }
+            put(sheet, at, MARK_BITS, 0);
+            return Ok(at + MARK_BITS);
+        }
+        if self.room < at + MARK_BITS + SPLIT_BITS {
+            return Err(Fault::OutputShort);
+        }
+        put_split(sheet, at, op);
+        self.children(rows, sheet, at + MARK_BITS + SPLIT_BITS, op, here)
+    }
 }

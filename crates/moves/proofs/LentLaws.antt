@@ -3,7 +3,7 @@
 -- written is written, or the output is too short: `plan-written`, `plan-short`. The judge passes the sheet of one that meets the rules:
 -- `sheet-passes`.
 use Prim.Native.Nat.{ℕ, zero, suc, ◌+◌, ◌/◌, ◌<◌, ◌≤◌}
-use mathlib.Core.Path.{◌≡◌, refl, sym, ap, subst, ◌∙◌}
+use mathlib.Core.Path.{◌≡◌, refl, sym, ◌∙◌}
 use mathlib.Core.Bool.{Bool, true, false}
 use mathlib.Core.List.{List, ◌++◌}
 use native.Mathlib.Omega.{arith}
@@ -11,25 +11,21 @@ use borrow.Author.Tests.{leb-true, leb-false}
 use lib.Dec.{leb}
 use lib.ListN.{length, drop, length-replicate}
 use Rattle.basics.specs.Numbers.{output_short, paper_plan, paper_request}
-use Rattle.basics.proofs.FaultLaws.{or_else-none}
 use Rattle.basics.proofs.TableLaws.{length-cells}
 use Rattle.sheets.specs.Answers.{if_room, written}
 use Rattle.sheets.specs.Columns.{column_at}
 use Rattle.sheets.specs.JobSheet.{read_job}
 use Rattle.sheets.specs.Limits.{op_cells, inst_cells, select_bits, step_bits, inst_bits, row_bits, plan_head}
-use Rattle.sheets.specs.PlanSheet.{PlanShape, rows_at, plan_end, ops_in, insts_in, plan_of, plan_in, plan_body_fault, plan_fault, no_plan, plan_answer, read_plan}
+use Rattle.sheets.specs.PlanSheet.{PlanShape, rows_at, plan_end, ops_in, insts_in, plan_of, plan_in, plan_fault, no_plan, plan_answer, read_plan}
 use Rattle.sheets.specs.PlanSheet.{plan_record_fault, plan_sheet, write_plan}
 use Rattle.sheets.specs.declared.Job.{Job}
 use Rattle.sheets.specs.declared.Plan.{Plan}
-use Rattle.sheets.specs.declared.PlanRead.{PlanRead}
-use Rattle.sheets.specs.declared.Reading.{Reading}
-use Rattle.sheets.specs.declared.Reading.TheVariants.{Read, Refused as Unread}
-use Rattle.sheets.specs.declared.Written.TheVariants.{Wrote, Refused}
-use Rattle.sheets.proofs.GroupLaws.{none-fill}
-use Rattle.sheets.proofs.PlanRoundTrip.{plan-read-written}
+use Rattle.sheets.specs.Answers.{Reading, Read, Unread}
+use Rattle.sheets.specs.Answers.{Wrote, Refused}
+use Rattle.sheets.proofs.PlanRoundTrip.{sheet-length, plan-read-written}
 use Rattle.rules.specs.Judge.{fault_with, plan_cost, pass_or, judged_with, if_read, judge_with, judge}
 use Rattle.rules.specs.Meets.{Meets}
-use Rattle.rules.specs.declared.Judged.TheVariants.{Passed, Refused as Unfit}
+use Rattle.rules.specs.Judge.{Passed, Refused as Unfit}
 use Rattle.rules.proofs.JudgeMeets.{judge-passes}
 use Rattle.moves.specs.Moved.{SheetWritten}
 
@@ -55,16 +51,16 @@ plan-read-shape s = go (plan_fault s)
 passed_none : (fault cost c : ℕ) → pass_or fault cost ≡ Passed c → (fault ≡ 0) × (cost ≡ c)
 unfolding pass_or
 passed_none zero cost c e = let s : cost ≡ c = cc in (refl, s)
-passed_none (suc k) cost c e = absurd (let z : ◌≡◌ {A = ℕ} 0 1 = cc in omega arith)
+passed_none (suc k) cost c e = cc
 
 papers-read : (order : Bool) (job plan : List ℕ) (c : ℕ) (a b : Reading) → (read_job job).answer ≡ a → (read_plan plan).answer ≡ b
     → judge_with order job plan ≡ Passed c → (a ≡ Read) × (b ≡ Read) × (judged_with order (read_job job).job (read_plan plan).plan ≡ Passed c)
 unfolding judge_with if_read
 papers-read order job plan c Read Read ea eb e = (refl, refl, rw (ea, eb) at e)
 papers-read order job plan c Read (Unread number paper) ea eb e =
-    absurd (let w : Unfit number paper ≡ Passed c = rw (ea, eb) at e in let z : ◌≡◌ {A = ℕ} 0 1 = cc in omega arith)
+    let w : Unfit number paper ≡ Passed c = rw (ea, eb) at e in cc
 papers-read order job plan c (Unread number paper) b ea eb e =
-    absurd (let w : Unfit number paper ≡ Passed c = rw ea at e in let z : ◌≡◌ {A = ℕ} 0 1 = cc in omega arith)
+    let w : Unfit number paper ≡ Passed c = rw ea at e in cc
 
 module _ (order : Bool) (job plan : List ℕ) (c : ℕ) (passed : judge_with order job plan ≡ Passed c) where
   both_read : ((read_job job).answer ≡ Read) × ((read_plan plan).answer ≡ Read) × (judged_with order (read_job job).job (read_plan plan).plan ≡ Passed c)
@@ -90,7 +86,7 @@ module _ (fault paper size room : ℕ) (z : fault ≡ 0) where
     where
       go : (b : Bool) → leb size room ≡ b → if_room (leb size room) size ≡ Wrote n → (size ≡ n) × (size ≤ room)
       go true q e = let w : Wrote size ≡ Wrote n = rw q at e in let s : size ≡ n = cc in (s, leb-true size room q)
-      go false q e = absurd (let w : Refused output_short paper_request ≡ Wrote n = rw q at e in let c : ◌≡◌ {A = ℕ} 0 1 = cc in omega arith)
+      go false q e = let w : Refused output_short paper_request ≡ Wrote n = rw q at e in cc
 
   refused-short : (number about : ℕ) → written fault paper size room ≡ Refused number about
       → (room < size) × (number ≡ output_short) × (about ≡ paper_request)
@@ -99,7 +95,7 @@ module _ (fault paper size room : ℕ) (z : fault ≡ 0) where
     where
       go : (b : Bool) → leb size room ≡ b → if_room (leb size room) size ≡ Refused number about
           → (room < size) × (number ≡ output_short) × (about ≡ paper_request)
-      go true q e = absurd (let w : Wrote size ≡ Refused number about = rw q at e in let c : ◌≡◌ {A = ℕ} 0 1 = cc in omega arith)
+      go true q e = let w : Wrote size ≡ Refused number about = rw q at e in cc
       go false q e =
           let w : Refused output_short paper_request ≡ Refused number about = rw q at e in
           let a : number ≡ output_short = cc in
@@ -108,36 +104,20 @@ module _ (fault paper size room : ℕ) (z : fault ≡ 0) where
 
 -- ---- a plan that can be written, and its sheet
 
-pub sheet-size : (p : Plan) → PlanShape p → plan_record_fault p ≡ 0 → length (plan_sheet p) ≡ (plan_end p.n p.k + 7) / 8
-unfolding read_plan plan_answer plan_fault plan_body_fault
-sheet-size p t z = go (plan_fault (plan_sheet p)) refl (plan-read-written p t z)
-  where
-    go : (k : ℕ) → plan_fault (plan_sheet p) ≡ k → plan_answer (plan_fault (plan_sheet p)) (plan_in (plan_sheet p)) ≡ record { answer = Read; plan = p }
-        → length (plan_sheet p) ≡ (plan_end p.n p.k + 7) / 8
-    go zero q e =
-        let is : plan_in (plan_sheet p) ≡ p = ap (λ (r : PlanRead). r.plan) (rw q at e) in
-        let body : plan_body_fault (plan_sheet p) p ≡ 0 = subst (λ (x : Plan). plan_body_fault (plan_sheet p) x ≡ 0) is (or_else-none _ _ q).1 in
-        (none-fill (plan_sheet p) (plan_end p.n p.k) (or_else-none _ _ body).1).0
-    go (suc k) q e =
-        absurd (
-        let w : Unread (suc k) paper_plan ≡ Read = ap (λ (r : PlanRead). r.answer) (rw q at e) in
-        let c : ◌≡◌ {A = ℕ} 0 1 = cc in
-        omega arith)
-
 module _ (p : Plan) (t : PlanShape p) (z : plan_record_fault p ≡ 0) where
   pub plan-written : (before after : List ℕ) (size : ℕ) → write_plan p (length before) ≡ Wrote size → after ≡ plan_sheet p ++ drop size before
       → SheetWritten p before after size
   unfolding write_plan
   plan-written before after size e bytes =
       let w = wrote-fits (plan_record_fault p) paper_plan ((plan_end p.n p.k + 7) / 8) (length before) z size e in
-      record { shape = t; sound = z; fits = omega (arith, w.0, w.1); long = sheet-size p t z ∙ w.0; bytes = bytes }
+      record { shape = t; sound = z; fits = omega (arith, w.0, w.1); long = sheet-length p ∙ w.0; bytes = bytes }
 
   pub plan-short : (room number paper : ℕ) → write_plan p room ≡ Refused number paper
       → (room < length (plan_sheet p)) × (number ≡ output_short) × (paper ≡ paper_request)
   unfolding write_plan
   plan-short room number paper e =
       let w = refused-short (plan_record_fault p) paper_plan ((plan_end p.n p.k + 7) / 8) room z number paper e in
-      (omega (arith, w.0, sheet-size p t z), w.1, w.2)
+      (omega (arith, w.0, sheet-length p), w.1, w.2)
 
   pub sheet-passes : (job : List ℕ) (j : Job) (c : ℕ) → read_job job ≡ record { answer = Read; job = j } → Meets j p → plan_cost j p ≡ c
       → judge job (plan_sheet p) ≡ Passed c

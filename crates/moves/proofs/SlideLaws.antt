@@ -5,7 +5,6 @@ use mathlib.Core.Path.{◌≡◌, refl, sym, subst}
 use mathlib.Core.Bool.{Bool, true, false}
 use mathlib.Core.List.{List, [], ◌∷◌}
 use mathlib.Core.Logic.{inl, inr, ⊎_elim}
-use native.Mathlib.Nat.{le-div_iff_mul-le}
 use native.Mathlib.Omega.{arith}
 use borrow.Author.Tests.{leb-true, le-ltb}
 use lib.Dec.{leb}
@@ -21,9 +20,10 @@ use Rattle.sheets.specs.declared.Job.{Job}
 use Rattle.sheets.specs.declared.Plan.{Plan}
 use Rattle.sheets.proofs.PlanFieldLaws.{none-plan}
 use Rattle.sheets.proofs.RecordLaws.{JobSound}
+use Rattle.rules.proofs.ModelLaws.{some-step}
 use Rattle.rules.specs.Judge.{plan_cost}
 use Rattle.rules.specs.Meets.{Link, Joined, AllIn, RunsFit, start, time, delay, Row, Meets}
-use Rattle.rules.specs.Model.{delay_of, in_steps, row_at, timing_in, timing_of}
+use Rattle.rules.specs.Model.{delay_of, row_at, timing_in, timing_of}
 use Rattle.rules.specs.Rules.{finish}
 use Rattle.moves.specs.Moved.{SlidBy}
 use Rattle.moves.specs.Slide.{backward, steps, moved, moved_at, slid, keeps_at, keeps}
@@ -83,11 +83,6 @@ module _ (j : Job) (sound : JobSound j) where
     runs_moved time begun r s (a ∷ []) z n k w = absurd (omega arith)
     runs_moved time begun r s (a ∷ b ∷ run) z n k w =
         r (f a) (a ∷ b ∷ run) (begun a (link-ends a b k.0).0) n k (run-together s (f a) run a b k w refl)
-
--- an operation that takes time takes a step
-some-step : (clock span : ℕ) → 1 ≤ clock → 0 < span → 1 ≤ in_steps clock span
-unfolding in_steps
-some-step clock span c s = (le-div_iff_mul-le {k = clock} {x = 1} {y = span + (clock - 1)} c).1 (omega arith)
 
 -- ---- the plan slid
 

@@ -17,9 +17,8 @@ use Rattle.sheets.specs.Answers.{output}
 use Rattle.sheets.specs.Limits.{op_cells, max_steps}
 use Rattle.sheets.specs.PlanSheet.{PlanShape, read_plan, plan_record_fault, plan_sheet, write_plan}
 use Rattle.sheets.specs.declared.Plan.{Plan}
-use Rattle.sheets.specs.declared.PlanRead.{PlanRead}
-use Rattle.sheets.specs.declared.Written.{Written}
-use Rattle.sheets.specs.declared.Written.TheVariants.{Wrote, Refused}
+use Rattle.sheets.specs.PlanSheet.{PlanRead}
+use Rattle.sheets.specs.Answers.{Written, Wrote, Refused}
 use Rattle.sheets.proofs.JobRoundTrip.{job-sound}
 use Rattle.sheets.proofs.PlanRoundTrip.{plan-read-sound}
 use Rattle.sheets.proofs.RecordLaws.{JobSound}
@@ -27,8 +26,7 @@ use Rattle.rules.specs.Judge.{plan_cost, judge}
 use Rattle.rules.specs.Meets.{Meets, Passes, delay}
 use Rattle.rules.specs.Model.{delay_of, row_at, timing_in, timing_of}
 use Rattle.rules.specs.Rules.{finish}
-use Rattle.rules.specs.declared.Judged.{Judged}
-use Rattle.rules.specs.declared.Judged.TheVariants.{Passed, Refused as Unfit}
+use Rattle.rules.specs.Judge.{Judged, Passed, Refused as Unfit}
 use Rattle.rules.proofs.JudgeMeets.{judge-passes}
 use Rattle.moves.specs.Moved.{SlidBy, Slides, Leaves, SlideRefusal}
 use Rattle.moves.specs.Moving.{if_passed, refused_unless}
@@ -45,7 +43,7 @@ record Fails (test : ℕ → Bool) (n : ℕ) : Type 0 where
 
 all_to-fails : (test : ℕ → Bool) (n : ℕ) → all_to test n ≡ false → Fails test n
 unfolding all_to
-all_to-fails test zero h = absurd (let z : ◌≡◌ {A = ℕ} 0 1 = cc in omega arith)
+all_to-fails test zero h = cc
 all_to-fails test (suc n) h = go (all_to test n) refl (all_to-fails test n) h
   where
     go : (b : Bool) → all_to test n ≡ b → (all_to test n ≡ false → Fails test n) → all_to test n && test n ≡ false → Fails test (suc n)
@@ -164,9 +162,9 @@ pub slide-written : (job plan : List ℕ) (d : ℤ) (before : List ℕ) (size : 
 slide-written job plan d before size e = go (way job plan d) (answered job plan d (length before) (Wrote size) e)
   where
     go : (y : Way job plan d) → answer_of job plan d (length before) y ≡ Wrote size → Slides job plan d before (slide_out job plan d before) size
-    go (refuses number paper r) h = absurd (let z : ◌≡◌ {A = ℕ} 0 1 = cc in omega arith)
-    go (strays cost w l) h = absurd (let z : ◌≡◌ {A = ℕ} 0 1 = cc in omega arith)
-    go (leaves cost w l k) h = absurd (let z : ◌≡◌ {A = ℕ} 0 1 = cc in omega arith)
+    go (refuses number paper r) h = cc
+    go (strays cost w l) h = cc
+    go (leaves cost w l k) h = cc
     go (stays cost w l k) h =
         record {
           cost = cost;
@@ -186,9 +184,9 @@ pub slid-judged : (job plan : List ℕ) (d : ℤ) (room size : ℕ) → slide jo
 slid-judged job plan d room size e = go (way job plan d) (answered job plan d room (Wrote size) e)
   where
     go : (y : Way job plan d) → answer_of job plan d room y ≡ Wrote size → judge job (plan_sheet (slid d (read_plan plan).plan)) ≡ judge job plan
-    go (refuses number paper r) h = absurd (let z : ◌≡◌ {A = ℕ} 0 1 = cc in omega arith)
-    go (strays cost w l) h = absurd (let z : ◌≡◌ {A = ℕ} 0 1 = cc in omega arith)
-    go (leaves cost w l k) h = absurd (let z : ◌≡◌ {A = ℕ} 0 1 = cc in omega arith)
+    go (refuses number paper r) h = cc
+    go (strays cost w l) h = cc
+    go (leaves cost w l k) h = cc
     go (stays cost w l k) h =
         ap (λ (p : Plan). judge job (plan_sheet (slid d p))) (lent_is job plan d cost w)
         ∙ q-judged job plan d cost w k

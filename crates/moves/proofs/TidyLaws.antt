@@ -14,7 +14,7 @@ use Rattle.basics.specs.Counting.{any_to, sum_to, only}
 use Rattle.basics.specs.Faults.{◌or_else◌, fault_unless}
 use Rattle.basics.specs.Numbers.{counts_differ, order_broken, precedence_broken, resource_broken, chain_broken, record_broken}
 use Rattle.basics.specs.Tables.{cell}
-use Rattle.basics.proofs.CountLaws.{and_both, both-and, any_to-some, some-any_to, any_to-none, only-small}
+use Rattle.basics.proofs.CountLaws.{sum_to-cong, and_both, both-and, any_to-some, some-any_to, any_to-none, only-small}
 use Rattle.basics.proofs.FaultLaws.{or_else-none, none-or_else, unless-none, none-unless, first-none, none_first}
 use Rattle.basics.proofs.TableLaws.{length-cells, cell-cells, cell-unused, cells-cong, each_within, blank-each, blank-cells}
 use Rattle.sheets.specs.Limits.{kind_count, op_cells, inst_cells, max_select, max_steps, max_inst}
@@ -26,13 +26,13 @@ use Rattle.rules.specs.Judge.{counts_fault, placing_fault, fault_with, judge_fau
 use Rattle.rules.specs.Model.{inst_count, types_of, span_of, in_steps, steps_of, row_at, row_table, timing_in, timing_of}
 use Rattle.rules.specs.Rules.{row_fault_at, rows_fault, precedence_ok, resource_ok, chains_ok}
 use Rattle.rules.specs.Selection.{selected, order_ok, cost_at, selection_cost}
-use Rattle.rules.specs.declared.Timing.{Timing}
+use Rattle.rules.specs.declared.Spans.{Spans}
 use Rattle.rules.proofs.JudgeLaws.{counts-agree}
 use Rattle.rules.proofs.ModelLaws.{types-rise}
 use Rattle.rules.proofs.RuleLaws.{says-order, RowOk, none_row, row-none, resource-says, says-resource}
 use Rattle.moves.specs.Moved.{TidiedTo}
 use Rattle.moves.specs.Tidy.{moves_past, past_at, moves_to, moves_in, takes, taken_at, taken_in, follows_at, follows_in, tidied}
-use Rattle.moves.proofs.SumLaws.{sum_to-cong, sum_to-none, sum_to-but, or_off, only-not, only-on, only-off, eqb-only, last_to, last_to-holds}
+use Rattle.moves.proofs.SumLaws.{sum_to-none, sum_to-but, or_off, only-not, only-on, only-off, eqb-only, last_to, last_to-holds}
 
 -- ---- which instances one moves past
 
@@ -331,7 +331,7 @@ module _ (j : Job) (p : Plan) (shape : PlanShape p) (written : plan_record_fault
   abbrev new_insts : List ℕ
   new_insts = follows_in places p.insts p.n
 
-  abbrev timing : Timing
+  abbrev timing : Spans op_cells
   timing = timing_of j p.insts
 
   sound : PlanSound p
@@ -427,7 +427,7 @@ module _ (j : Job) (p : Plan) (shape : PlanShape p) (written : plan_record_fault
       resource-says p.starts p.insts timing.spacings j.n begun parts.2 a b la lb d one l)
 
   -- its fault, where its rows take so much
-  abbrev fault_taking : Timing → ℕ
+  abbrev fault_taking : Spans op_cells → ℕ
   fault_taking taking =
       counts_fault p.n p.k j.n (inst_count j) or_else
       fault_unless (order_ok (types_of j) new_marks (inst_count j)) order_broken or_else
@@ -445,7 +445,7 @@ module _ (j : Job) (p : Plan) (shape : PlanShape p) (written : plan_record_fault
 
   pub tidied-passes : judge_fault j (tidied j p) ≡ 0
   unfolding judge_fault fault_with tidied
-  tidied-passes = subst (λ (taking : Timing). fault_taking taking ≡ 0) (sym timing-kept) fault-none
+  tidied-passes = subst (λ (taking : Spans op_cells). fault_taking taking ≡ 0) (sym timing-kept) fault-none
 
   pub tidied-cost : plan_cost j (tidied j p) ≡ plan_cost j p
   unfolding plan_cost tidied

@@ -3,21 +3,18 @@ use Prim.Native.Nat.{ℕ}
 use mathlib.Core.Path.{◌≡◌, refl, sym, ap, ◌∙◌}
 use mathlib.Core.Bool.{false}
 use mathlib.Core.List.{List, ◌++◌}
-use native.Mathlib.Omega.{arith}
 use lib.ListN.{length, drop}
 use Rattle.sheets.specs.Answers.{output}
 use Rattle.sheets.specs.JobSheet.{read_job}
 use Rattle.sheets.specs.PlanSheet.{PlanShape, read_plan, plan_record_fault, plan_sheet, write_plan}
 use Rattle.sheets.specs.declared.Job.{Job}
 use Rattle.sheets.specs.declared.Plan.{Plan}
-use Rattle.sheets.specs.declared.Written.{Written}
-use Rattle.sheets.specs.declared.Written.TheVariants.{Wrote, Refused}
+use Rattle.sheets.specs.Answers.{Written, Wrote, Refused}
 use Rattle.sheets.proofs.JobRoundTrip.{job-sound}
 use Rattle.sheets.proofs.PlanRoundTrip.{plan-read-sound}
 use Rattle.rules.specs.Judge.{fault_with, plan_cost, judge_with, judge}
 use Rattle.rules.specs.Meets.{Meets}
-use Rattle.rules.specs.declared.Judged.{Judged}
-use Rattle.rules.specs.declared.Judged.TheVariants.{Passed, Refused as Unfit}
+use Rattle.rules.specs.Judge.{Judged, Passed, Refused as Unfit}
 use Rattle.rules.proofs.JudgeMeets.{none-exactly}
 use Rattle.moves.specs.Moved.{TidiedTo, Tidies, TidyRefusal}
 use Rattle.moves.specs.Moving.{if_passed}
@@ -94,7 +91,7 @@ tidy-written job plan before size e = go (judge_with false job plan) refl
     go (Passed c) h =
         let sheet : List ℕ = plan_sheet (tidied (read_job job).job (read_plan plan).plan) in
         written-says job plan c h before (tidy_out job plan before) size (rw h at e) (ap (λ (r : Written). output r sheet before) e)
-    go (Unfit number paper) h = absurd (let w : Refused number paper ≡ Wrote size = rw h at e in let z : ◌≡◌ {A = ℕ} 0 1 = cc in omega arith)
+    go (Unfit number paper) h = let w : Refused number paper ≡ Wrote size = rw h at e in cc
 
 pub tidy-refused : (job plan : List ℕ) (room number paper : ℕ) → tidy job plan room ≡ Refused number paper → TidyRefusal job plan room number paper
 unfolding tidy if_passed
@@ -116,4 +113,4 @@ tidied-judged job plan room size e = go (judge_with false job plan) refl
   where
     go : (v : Judged) → judge_with false job plan ≡ v → judge job (plan_sheet (tidied (read_job job).job (read_plan plan).plan)) ≡ judge_with false job plan
     go (Passed c) h = q-judged job plan c h ∙ sym h
-    go (Unfit number paper) h = absurd (let w : Refused number paper ≡ Wrote size = rw h at e in let z : ◌≡◌ {A = ℕ} 0 1 = cc in omega arith)
+    go (Unfit number paper) h = let w : Refused number paper ≡ Wrote size = rw h at e in cc

@@ -8,12 +8,12 @@ use Rattle.sheets.specs.Limits.{max_steps}
 use Rattle.sheets.specs.PlanSheet.{PlanShape, read_plan, plan_record_fault, plan_sheet}
 use Rattle.sheets.specs.declared.Job.{Job}
 use Rattle.sheets.specs.declared.Plan.{Plan}
-use Rattle.sheets.specs.declared.Reading.TheVariants.{Read}
+use Rattle.sheets.specs.Answers.{Read}
 use Rattle.rules.specs.Judge.{plan_cost, judge_with, judge}
 use Rattle.rules.specs.Meets.{Meets, Passes, Selected, start, inst, delay}
 use Rattle.rules.specs.Model.{inst_count, type_of}
 use Rattle.rules.specs.Rules.{finish}
-use Rattle.rules.specs.declared.Judged.TheVariants.{Passed, Refused as Unfit}
+use Rattle.rules.specs.Judge.{Passed, Refused as Unfit}
 use Rattle.moves.specs.Slide.{steps, backward, moved}
 
 -- ---- the plan written is a record that can be; its sheet begins the output, and the rest stays

@@ -1,9 +1,7 @@
 -- What both moves share: a plan is moved where judging passes it (`if_passed`), and a test can refuse it (`refused_unless`).
 use Rattle.std.specs.Prelude.{ℕ, Bool, true, false}
-use Rattle.sheets.specs.declared.Written.{Written}
-use Rattle.sheets.specs.declared.Written.TheVariants.{Refused}
-use Rattle.rules.specs.declared.Judged.{Judged}
-use Rattle.rules.specs.declared.Judged.TheVariants.{Passed, Refused as Unfit}
+use Rattle.sheets.specs.Answers.{Written, Refused}
+use Rattle.rules.specs.Judge.{Judged, Passed, Refused as Unfit}
 
 -- the answer `next` of a plan that passed (`Unfit` is the judge's `Refused`)
 unfoldable pub if_passed : Judged → Written → Written

@@ -4,13 +4,12 @@ use Rattle.std.specs.Prelude.{ℕ, suc, ◌+◌, ◌-◌, Bool, true, false, ◌
 use Rattle.basics.specs.Counting.{all_to}
 use Rattle.basics.specs.Numbers.{distance_far, moved_out, paper_plan, paper_request}
 use Rattle.basics.specs.Tables.{cell, cells}
-use Rattle.sheets.specs.Answers.{output}
+use Rattle.sheets.specs.Answers.{Written, output}
 use Rattle.sheets.specs.JobSheet.{read_job}
 use Rattle.sheets.specs.Limits.{op_cells, max_steps}
 use Rattle.sheets.specs.PlanSheet.{read_plan, plan_sheet, write_plan}
 use Rattle.sheets.specs.declared.Job.{Job}
 use Rattle.sheets.specs.declared.Plan.{Plan}
-use Rattle.sheets.specs.declared.Written.{Written}
 use Rattle.rules.specs.Judge.{judge}
 use Rattle.rules.specs.Model.{timing_of}
 use Rattle.rules.specs.Rules.{finish}

@@ -3,13 +3,12 @@
 use Rattle.std.specs.Prelude.{ℕ, ◌+◌, Bool, false, not, ◌&&◌, List, ltb, eqb, length}
 use Rattle.basics.specs.Counting.{any_to, sum_to, only}
 use Rattle.basics.specs.Tables.{cell, cells}
-use Rattle.sheets.specs.Answers.{output}
+use Rattle.sheets.specs.Answers.{Written, output}
 use Rattle.sheets.specs.JobSheet.{read_job}
 use Rattle.sheets.specs.Limits.{op_cells, inst_cells}
 use Rattle.sheets.specs.PlanSheet.{read_plan, plan_sheet, write_plan}
 use Rattle.sheets.specs.declared.Job.{Job}
 use Rattle.sheets.specs.declared.Plan.{Plan}
-use Rattle.sheets.specs.declared.Written.{Written}
 use Rattle.rules.specs.Judge.{judge_with}
 use Rattle.rules.specs.Model.{types_of}
 use Rattle.rules.specs.Selection.{selected}

@@ -1,127 +1,97 @@
 // Tidying: each type's selected instances move to its last numbers, and the rows follow.
-ghost use Rattle.std.specs.Prelude.{◌≡◌, ◌≤◌, ◌<◌, ◌^◌, length};
+ghost use Rattle.std.specs.Prelude.{◌≡◌, ◌≤◌, length};
 ghost use Rattle.basics.specs.Answers.{Promise};
 ghost use Rattle.basics.specs.Counting.{any_to};
-ghost use Rattle.sheets.specs.Limits.{max_insts, max_ops};
+ghost use Rattle.sheets.specs.Answers.{written_of};
+ghost use Rattle.sheets.specs.Limits.{max_insts};
 ghost use Rattle.sheets.specs.PlanSheet.{plan_record_fault};
 ghost use Rattle.moves.specs.Tidy.{moves_past, moves_to, moves_in, takes, taken_in, follows_in, tidied as tidied_of, tidy as tidy_of, tidy_out};
 
-use basics::{cell, only};
-use rules::Judged;
+use basics::{Refusal, cell, cells};
 use rules::judging::lend;
 use rules::model::types_in;
 use rules::selection::selected;
 use sheets::limits::*;
 use sheets::plans::write_plan;
-use sheets::{Job, Plan, Written};
+use sheets::{Job, Plan};
 
 // Instance i moves past instance `other`: an unselected one of its type, behind it.
-fn moves_past<'a>(types: &'a [u16], selection: &'a [u16], i: usize, other: usize) -> bool
-    ensures { result ≡ moves_past types.now selection.now i other }
+#[tactic(auto, unfolding(crate::specs::Tidy::moves_past))]
+fn moves_past(types: &[u16], plan: &Plan, i: usize, other: usize) -> bool
+    ensures { result ≡ moves_past types.now plan.now.selection i other }
 {
-    (i < other) & (cell(types, other) == cell(types, i)) & !selected(selection, other)
+    i < other && cell(types, other) == cell(types, i) && !selected(&plan.selection, other)
 }
 
-// Where instance i of k moves to.
-fn moves_to<'a>(types: &'a [u16], selection: &'a [u16], k: usize, i: usize) -> u16
-    requires { (k ≤ max_insts) × (i ≤ max_insts) }
-    ensures { (result ≡ moves_to types.now selection.now k i) × (result < 2 ^ 16) }
+// Where instance i of the plan moves to.
+fn moves_to(types: &[u16], plan: &Plan, i: usize) -> u16
+    requires { (plan.now.k ≤ max_insts) × (i ≤ max_insts) }
+    ensures { result ≡ moves_to types.now plan.now.selection plan.now.k i }
 {
-    let mut place: usize = i;
-    let mut other: usize = 0;
-    while other < k {
-        place += only(moves_past(types, selection, i, other), 1) as usize;
-        other += 1;
-    }
-    place as u16
+    let passed = (0..plan.k as usize)
+        .filter(|other| moves_past(types, plan, i, *other))
+        .count();
+    (i + passed) as u16
 }
 
-// Where each of k instances moves to.
-fn moves_in<'a>(types: &'a [u16], selection: &'a [u16], k: usize) -> [u16; INST_CELLS]
-    requires { k ≤ max_insts }
-    ensures { result ≡ moves_in types.now selection.now k }
+// Where each instance of the plan moves to.
+fn moves_in(types: &[u16], plan: &Plan) -> [u16; INST_CELLS]
+    requires { plan.now.k ≤ max_insts }
+    ensures { result ≡ moves_in types.now plan.now.selection plan.now.k }
 {
-    let mut moves = [0u16; INST_CELLS];
-    let mut i: usize = 0;
-    while i < k {
-        moves[i] = moves_to(types, selection, k, i);
-        i += 1;
-    }
-    moves
+    cells(plan.k as usize, |i| moves_to(types, plan, i))
 }
 
-// A selected one of k instances moves to instance m.
-fn taken<'a>(moves: &'a [u16], selection: &'a [u16], k: usize, m: usize) -> bool
-    ensures { result ≡ any_to (takes moves.now selection.now m) k }
+// Instance i is selected, and moves to instance m.
+#[tactic(auto, unfolding(crate::specs::Tidy::takes))]
+fn takes(moves: &[u16], plan: &Plan, m: usize, i: usize) -> bool
+    ensures { result ≡ takes moves.now plan.now.selection m i }
 {
-    let mut found = false;
-    let mut i: usize = 0;
-    while i < k {
-        found = found | (selected(selection, i) & (cell(moves, i) as usize == m));
-        i += 1;
-    }
-    found
+    selected(&plan.selection, i) && cell(moves, i) as usize == m
 }
 
-// The selection of k instances, moved.
-fn taken_in<'a>(moves: &'a [u16], selection: &'a [u16], k: usize) -> [u16; INST_CELLS]
-    requires { k ≤ max_insts }
-    ensures { result ≡ taken_in moves.now selection.now k }
+// A selected instance moves to instance m.
+fn taken(moves: &[u16], plan: &Plan, m: usize) -> bool
+    ensures { result ≡ any_to (takes moves.now plan.now.selection m) plan.now.k }
 {
-    let mut chosen = [0u16; INST_CELLS];
-    let mut m: usize = 0;
-    while m < k {
-        chosen[m] = only(taken(moves, selection, k, m), 1) as u16;
-        m += 1;
-    }
-    chosen
+    (0..plan.k as usize).any(|i| takes(moves, plan, m, i))
 }
 
-// The instances of n rows, moved.
-fn follows_in<'a>(moves: &'a [u16], insts: &'a [u16], n: usize) -> [u16; OP_CELLS]
-    requires { n ≤ max_ops }
-    ensures { result ≡ follows_in moves.now insts.now n }
+// The plan's selection, moved.
+fn taken_in(moves: &[u16], plan: &Plan) -> [u16; INST_CELLS]
+    ensures { result ≡ taken_in moves.now plan.now.selection plan.now.k }
 {
-    let mut follows = [0u16; OP_CELLS];
-    let mut o: usize = 0;
-    while o < n {
-        follows[o] = cell(moves, cell(insts, o) as usize);
-        o += 1;
-    }
-    follows
+    cells(plan.k as usize, |m| u16::from(taken(moves, plan, m)))
+}
+
+// The instances of the plan's rows, moved.
+fn follows_in(moves: &[u16], plan: &Plan) -> [u16; OP_CELLS]
+    ensures { result ≡ follows_in moves.now plan.now.insts plan.now.n }
+{
+    cells(
+        plan.n as usize,
+        |o| cell(moves, cell(&plan.insts, o) as usize),
+    )
 }
 
 // The plan, tidied.
-fn tidied(job: Job, plan: Plan) -> Plan
-    requires { plan_record_fault plan ≡ 0 }
-    ensures { result ≡ tidied_of job plan }
+fn tidied(job: &Job, plan: &Plan) -> Plan
+    requires { plan_record_fault plan.now ≡ 0 }
+    ensures { result ≡ tidied_of job.now plan.now }
 {
-    let n = plan.n as usize;
-    let k = plan.k as usize;
     let types = types_in(&job.copies, job.m);
-    let moves = moves_in(&types, &plan.selection, k);
-    let selection = taken_in(&moves, &plan.selection, k);
-    let insts = follows_in(&moves, &plan.insts, n);
-    let starts = plan.starts;
+    let moves = moves_in(&types, plan);
     Plan {
-        n: plan.n,
-        k: plan.k,
-        selection,
-        starts,
-        insts,
+        selection: taken_in(&moves, plan),
+        insts: follows_in(&moves, plan),
+        ..*plan
     }
 }
 
-// Tidies a plan that breaks no rule but possibly selection order, and writes its sheet. A refusal changes no byte.
-pub fn tidy(job: &[u8], plan: &[u8], out: &mut [u8]) -> Written
-    ensures { Promise (tidy_of job.now plan.now (length out.old)) (tidy_out job.now plan.now out.old) result out.new }
+/// Tidies a plan that breaks no rule but possibly selection order, and writes its sheet. A refusal changes no byte.
+pub fn tidy(job: &[u8], plan: &[u8], out: &mut [u8]) -> Result<u32, Refusal>
+    ensures { Promise (tidy_of job.now plan.now (length out.old)) (tidy_out job.now plan.now out.old) (written_of result) out.new }
 {
-    let lent = lend(false, job, plan);
-    let judged = lent.judged;
-    let job_record = lent.job;
-    let plan_record = lent.plan;
-    match judged {
-        Judged::Passed { cost: _ } => write_plan(tidied(job_record, plan_record), out),
-        Judged::Refused { number, paper } => Written::Refused { number, paper },
-    }
+    let lent = lend(false, job, plan)?;
+    write_plan(&tidied(&lent.job, &lent.plan), out)
 }

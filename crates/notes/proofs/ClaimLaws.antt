@@ -3,7 +3,6 @@
 -- claim the job is refused, or the plan beside it (`unclaimed-exactly`). The job that a claim is of was read (`asked-read`).
 use Prim.Native.Nat.{ℕ}
 use mathlib.Core.Path.{◌≡◌, refl, sym, ap, ◌∙◌}
-use mathlib.Core.Bool.{Bool, true, false}
 use mathlib.Core.List.{List, [], ◌∷◌}
 use mathlib.Core.Logic.{◌⊎◌, inl, inr, ◌↔◌}
 use native.Mathlib.Decide.{ℕ_discrete}
@@ -15,73 +14,47 @@ use Rattle.sheets.specs.Groups.{runs_out, form_fault}
 use Rattle.sheets.specs.JobSheet.{read_job}
 use Rattle.sheets.specs.PlanSheet.{plan_head_fault, plan_fault, plan_answer, read_plan}
 use Rattle.sheets.specs.declared.Job.{Job}
-use Rattle.sheets.specs.declared.Reading.{Reading}
-use Rattle.sheets.specs.declared.Reading.TheVariants.{Read, Refused as Unread}
-use Rattle.rules.specs.Judge.{judged, if_read as if_paper, judge_with, judge}
+use Rattle.sheets.specs.Answers.{Reading, Read, Unread}
+use Rattle.rules.specs.Judge.{Judged, Passed, Refused as Unfit, judged, if_read as if_paper, judge_with, judge}
 use Rattle.rules.specs.Meets.{Passes}
-use Rattle.rules.specs.declared.Judged.{Judged}
-use Rattle.rules.specs.declared.Judged.TheVariants.{Passed, Refused as Unfit}
 use Rattle.rules.proofs.JudgeMeets.{judge-passes}
-use Rattle.placing.specs.declared.Claim.{Claim}
-use Rattle.notes.specs.Check.{plan_claim, no_claim, claim_by, if_read, if_lent, claim_of, asked}
-use Rattle.notes.specs.declared.Claimed.{Claimed}
-use Rattle.notes.specs.declared.Claimed.TheVariants.{Claims, Refused as Unclaimed}
+use Rattle.placing.specs.Closing.{Claim}
+use Rattle.notes.specs.Check.{Claims, Unclaimed, plan_claim, no_claim, claim_by, if_read, if_lent, claim_of, asked}
 
 -- ---- the ways of a claim apart
 
-abbrev is_claim : Claimed → ℕ
-is_claim (Claims claim) = 1
-is_claim (Unclaimed number paper) = 0
-
-abbrev claim_in : Claimed → Claim
-claim_in (Claims claim) = claim
-claim_in (Unclaimed number paper) = no_claim
-
-abbrev bit_of : Bool → ℕ
-bit_of true = 1
-bit_of false = 0
-
 not-claimed : {A : Type 0} (number paper : ℕ) (claim : Claim) → Unclaimed number paper ≡ Claims claim → A
-not-claimed number paper claim e = absurd (let z : 0 ≡ 1 = ap is_claim e in omega arith)
-
-no-plan-claimed : {A : Type 0} (c : ℕ) → Claims no_claim ≡ Claims (plan_claim c) → A
-no-plan-claimed c e = absurd (let z : 0 ≡ 1 = ap (λ (x : Claimed). bit_of (claim_in x).plan) e in omega arith)
+not-claimed number paper claim e = absurd (cc)
 
 claim-passed : (r : Judged) (c : ℕ) → claim_by r ≡ Claims (plan_claim c) → r ≡ Passed c
 unfolding claim_by
-claim-passed (Passed cost) c e = ap Passed (ap (λ (x : Claimed). (claim_in x).cost) e)
-claim-passed (Unfit number paper) c e = not-claimed number paper (plan_claim c) e
+claim-passed (Passed cost) c e = cc
+claim-passed (Unfit number paper) c e = cc
 
 claim-plan : (r : Judged) → claim_by r ≡ Claims no_claim → ⊥
 unfolding claim_by
-claim-plan (Passed cost) e = no-plan-claimed cost (sym e)
-claim-plan (Unfit number paper) e = not-claimed number paper no_claim e
+claim-plan (Passed cost) e = cc
+claim-plan (Unfit number paper) e = cc
 
-claim-judged : (r : Judged) (claim : Claim) → claim_by r ≡ Claims claim → claim ≡ plan_claim claim.cost
+claim-judged : (r : Judged) (claim : Claim) → claim_by r ≡ Claims claim → (c : ℕ) × (claim ≡ plan_claim c)
 unfolding claim_by
-claim-judged (Passed cost) claim e = let s : plan_claim cost ≡ claim = ap claim_in e in rw (← s)
+claim-judged (Passed cost) claim e = (cost, cc)
 claim-judged (Unfit number paper) claim e = not-claimed number paper claim e
 
 claim-alone : (a : Reading) (claim : Claim) → if_read a (Claims no_claim) ≡ Claims claim → claim ≡ no_claim
 unfolding if_read
-claim-alone Read claim e = sym (ap claim_in e)
-claim-alone (Unread number paper) claim e = not-claimed number paper claim e
+claim-alone Read claim e = cc
+claim-alone (Unread number paper) claim e = cc
 
 unclaimed-judged : (r : Judged) (number paper : ℕ) → claim_by r ≡ Unclaimed number paper → r ≡ Unfit number paper
 unfolding claim_by
-unclaimed-judged (Passed cost) number paper e = not-claimed number paper (plan_claim cost) (sym e)
-unclaimed-judged (Unfit number' paper') number paper e =
-    let a : number' ≡ number = cc in
-    let b : paper' ≡ paper = cc in
-    rw (a, b)
+unclaimed-judged (Passed cost) number paper e = cc
+unclaimed-judged (Unfit number' paper') number paper e = cc
 
 unclaimed-read : (a : Reading) (number paper : ℕ) → if_read a (Claims no_claim) ≡ Unclaimed number paper → a ≡ Unread number paper
 unfolding if_read
-unclaimed-read Read number paper e = not-claimed number paper no_claim (sym e)
-unclaimed-read (Unread number' paper') number paper e =
-    let a : number' ≡ number = cc in
-    let b : paper' ≡ paper = cc in
-    rw (a, b)
+unclaimed-read Read number paper e = cc
+unclaimed-read (Unread number' paper') number paper e = cc
 
 -- ---- without a plan, and with one
 
@@ -134,8 +107,8 @@ module _ (job plan : List ℕ) where
   claimed-pass c e = go (ℕ_discrete (length plan) 0)
     where
       without : (a : Reading) → if_read a (Claims no_claim) ≡ Claims (plan_claim c) → Passes job plan c
-      without Read e = no-plan-claimed c e
-      without (Unread number paper) e = not-claimed number paper (plan_claim c) e
+      without Read e = absurd (cc)
+      without (Unread number paper) e = absurd (cc)
 
       go : Dec (length plan ≡ 0) → Passes job plan c
       go (yes h) = without (read_job job).answer (sym (alone h) ∙ e)
@@ -158,7 +131,7 @@ module _ (job plan : List ℕ) where
 
   -- ---- there are no other claims
 
-  pub claimed-either : (claim : Claim) → (asked job plan).claimed ≡ Claims claim → (claim ≡ plan_claim claim.cost) ⊎ (claim ≡ no_claim)
+  pub claimed-either : (claim : Claim) → (asked job plan).claimed ≡ Claims claim → ((c : ℕ) × (claim ≡ plan_claim c)) ⊎ (claim ≡ no_claim)
   claimed-either claim e =
       elim (ℕ_discrete (length plan) 0) [
         | yes h ↦ inr (claim-alone (read_job job).answer claim (sym (alone h) ∙ e))

@@ -4,10 +4,11 @@
 -- refusal what is refused.
 use Prim.Native.Nat.{ℕ, zero, suc, ◌+◌, ◌*◌, ◌≤◌}
 use mathlib.Core.Path.{◌≡◌, refl, sym, ap, subst, ◌∙◌}
-use mathlib.Core.Bool.{Bool, true, false}
+use mathlib.Core.Bool.{Bool}
 use mathlib.Core.List.{List, []}
 use mathlib.Core.Logic.{inl, inr, ⊎_elim, ◌↔◌}
 use native.Mathlib.Omega.{arith}
+use Rattle.std.specs.Prelude.{Some, None, is_some}
 use borrow.Author.Tests.{leb-true, le-leb, eqb-true, eq-eqb}
 use lib.Dec.{lit<}
 use lib.ListN.{length}
@@ -19,33 +20,27 @@ use Rattle.bits.specs.Bits.{Bytes, field}
 use Rattle.bits.specs.Sheet.{Field, total, bytes_for, fill}
 use Rattle.bits.proofs.SheetLaws.{Fit, Holds, holds-pack, pack-holds, fill-pack, length-pack}
 use Rattle.sheets.specs.Groups.{fill_fault}
-use Rattle.sheets.specs.JobSheet.{read_job}
+use Rattle.sheets.specs.JobSheet.{JobRead, read_job}
 use Rattle.sheets.specs.Limits.{max_ops, form_bits}
 use Rattle.sheets.specs.declared.Job.{Job}
-use Rattle.sheets.specs.declared.JobRead.{JobRead}
 use Rattle.sheets.specs.declared.Plan.{Plan}
-use Rattle.sheets.specs.declared.Reading.TheVariants.{Read}
+use Rattle.sheets.specs.Answers.{Read}
 use Rattle.sheets.proofs.GroupLaws.{whole-none, none-whole, form-none, none-form, fill_none, none-fill}
 use Rattle.rules.specs.Judge.{plan_cost}
 use Rattle.rules.specs.Meets.{Meets, Passes}
 use Rattle.placing.specs.Board.{board_of}
-use Rattle.placing.specs.Closing.{Tree, Turn, goes, stops, closable, choice, split_on, ClosesBoard}
+use Rattle.placing.specs.Closing.{Claim, AtMost, Tree, Turn, goes, stops, closable, choice, split_on, ClosesBoard}
 use Rattle.placing.specs.Options.{none}
 use Rattle.placing.specs.Placing.{Placing}
 use Rattle.placing.specs.declared.Board.{Board}
-use Rattle.placing.specs.declared.Claim.{Claim}
 use Rattle.placing.proofs.BoardLaws.{few-ops}
 use Rattle.placing.proofs.ClosingLaws.{unplaced-below, closed-least}
 use Rattle.placing.proofs.LeafMeets.{of-job}
 use Rattle.notes.specs.Accepted.{ClosingNote, CheapestPlan, NoPlan, Refusal, job_unread, plan_unfit, note_faulty}
-use Rattle.notes.specs.Check.{plan_claim, no_claim, asked, head_fault, tree_fault, note_fault, accept_if, checked, check_claim, check_note}
+use Rattle.notes.specs.Check.{Claimed, Claims, Unclaimed, Checked, Cheapest, Nothing, Refused, plan_claim, no_claim, asked, head_fault, tree_fault, note_fault, accepted, checked, check_claim, check_note}
 use Rattle.notes.specs.NoteSheet.{note_form, verdict_bits, note_head, split_bits, max_note, marks, note_fields, note_sheet}
 use Rattle.notes.specs.Reading.{place_at}
-use Rattle.notes.specs.declared.Checked.{Checked}
-use Rattle.notes.specs.declared.Checked.TheVariants.{Cheapest, Nothing, Refused}
-use Rattle.notes.specs.declared.Claimed.{Claimed}
-use Rattle.notes.specs.declared.Claimed.TheVariants.{Claims, Refused as Unclaimed}
-use Rattle.notes.proofs.ClaimLaws.{asked-read, claimed-passes, claimed-none, claimed-either, unclaimed-exactly}
+use Rattle.notes.proofs.ClaimLaws.{asked-read, claimed-passes, claimed-none, unclaimed-exactly}
 use Rattle.notes.proofs.TreeLaws.{TreeAt, place-tree, tree-place, place-stops, closes-fit}
 
 -- ---- the header
@@ -83,7 +78,7 @@ module _ (b : Board) (claim : Claim) (note : List ℕ) where
   TreeHere end = TreeAt note split_bits Placing (closable b claim) (choice b) (split_on b) b.n none note_head end
 
   record NoteRead : Type 0 where
-    head : Head note claim.plan
+    head : Head note (is_some claim)
     end : ℕ
     tree : TreeHere end
     last : fill_fault note end ≡ 0
@@ -91,10 +86,10 @@ module _ (b : Board) (claim : Claim) (note : List ℕ) where
   note-read : note_fault b claim note ≡ 0 → NoteRead
   unfolding note_fault tree_fault
   note-read h =
-      let a = or_else-none (head_fault note claim.plan) _ h in
-      go (place_at note split_bits b claim b.n none note_head) refl a.1 (head-says note claim.plan a.0)
+      let a = or_else-none (head_fault note (is_some claim)) _ h in
+      go (place_at note split_bits b claim b.n none note_head) refl a.1 (head-says note (is_some claim) a.0)
     where
-      go : (t : Turn ℕ) → place_at note split_bits b claim b.n none note_head ≡ t → tree_fault note t ≡ 0 → Head note claim.plan → NoteRead
+      go : (t : Turn ℕ) → place_at note split_bits b claim b.n none note_head ≡ t → tree_fault note t ≡ 0 → Head note (is_some claim) → NoteRead
       go (goes end) e f head =
           record {
             head = head;
@@ -113,7 +108,7 @@ module _ (b : Board) (claim : Claim) (note : List ℕ) where
   no-fault-note bytes h =
       let r = note-read h in
       let t : Tree = r.tree.tree in
-      let fs : List Field = note_fields split_bits claim.plan t in
+      let fs : List Field = note_fields split_bits (is_some claim) t in
       let e : r.end ≡ total fs = omega (arith, r.tree.ends) in
       let f = none-fill note r.end r.last in
       let long = f.0 ∙ ap (λ (k : ℕ). bytes_for k) e in
@@ -127,7 +122,7 @@ module _ (b : Board) (claim : Claim) (note : List ℕ) where
       }
 
   -- a closing note has none
-  module _ (few : b.n ≤ max_ops) (t : Tree) (closes : ClosesBoard b claim b.n none t) (bytes : note ≡ note_sheet claim.plan t) where
+  module _ (few : b.n ≤ max_ops) (t : Tree) (closes : ClosesBoard b claim b.n none t) (bytes : note ≡ note_sheet (is_some claim) t) where
     abbrev end : ℕ
     end = note_head + total (marks split_bits t)
 
@@ -136,30 +131,30 @@ module _ (b : Board) (claim : Claim) (note : List ℕ) where
         closes-fit split_bits Placing (closable b claim) (choice b) (split_on b)
         (λ p o h. let l = unplaced-below b.n p.starts o h in omega arith) b.n none t closes
 
-    fields_fit : Fit (note_fields split_bits claim.plan t)
+    fields_fit : Fit (note_fields split_bits (is_some claim) t)
     unfolding Fit
-    fields_fit = (lit< tt, (omega (arith, only-small claim.plan 1), marks-fit))
+    fields_fit = (lit< tt, (omega (arith, only-small (is_some claim) 1), marks-fit))
 
-    note-holds : Holds note 0 (note_fields split_bits claim.plan t)
+    note-holds : Holds note 0 (note_fields split_bits (is_some claim) t)
     unfolding note_sheet
-    note-holds = rw bytes (holds-pack (note_fields split_bits claim.plan t) fields_fit)
+    note-holds = rw bytes (holds-pack (note_fields split_bits (is_some claim) t) fields_fit)
 
-    fields-end : total (note_fields split_bits claim.plan t) ≡ end
+    fields-end : total (note_fields split_bits (is_some claim) t) ≡ end
     unfolding total
     fields-end = omega arith
 
     note-length : length note ≡ bytes_for end
     unfolding note_sheet
-    note-length = rw bytes (length-pack (note_fields split_bits claim.plan t) ∙ ap (λ (k : ℕ). bytes_for k) fields-end)
+    note-length = rw bytes (length-pack (note_fields split_bits (is_some claim) t) ∙ ap (λ (k : ℕ). bytes_for k) fields-end)
 
     note-fill : field note end (fill end) ≡ 0
     unfolding note_sheet
-    note-fill = rw bytes (subst (λ (k : ℕ). field (note_sheet claim.plan t) k (fill k) ≡ 0) fields-end (fill-pack (note_fields split_bits claim.plan t) fields_fit))
+    note-fill = rw bytes (subst (λ (k : ℕ). field (note_sheet (is_some claim) t) k (fill k) ≡ 0) fields-end (fill-pack (note_fields split_bits (is_some claim) t) fields_fit))
 
-    head-none : length note ≤ max_note → head_fault note claim.plan ≡ 0
+    head-none : length note ≤ max_note → head_fault note (is_some claim) ≡ 0
     unfolding Holds
     head-none short =
-        says-head note claim.plan
+        says-head note (is_some claim)
         (record { short = short; form = note-holds.0; long = omega (arith, note-length); verdict = note-holds.1.0 })
 
     tree-none : tree_fault note (place_at note split_bits b claim b.n none note_head) ≡ 0
@@ -200,7 +195,7 @@ module _ (job plan note : List ℕ) where
   abbrev answer_of : Way job plan note → Checked
   answer_of (unclaimed number paper e) = Refused number paper
   answer_of (faulty claim number e f) = Refused (suc number) paper_note
-  answer_of (faultless claim e f) = accept_if claim.plan claim.cost
+  answer_of (faultless claim e f) = accepted claim
 
   answers : (w : Way job plan note) → check_note job plan note ≡ answer_of w
   unfolding check_note check_claim checked
@@ -213,20 +208,20 @@ module _ (job plan note : List ℕ) where
 
 -- ---- accepted
 
-accept-cheapest : (plan : Bool) (cost c : ℕ) → accept_if plan cost ≡ Cheapest c → (plan ≡ true) × (cost ≡ c)
-unfolding accept_if
-accept-cheapest true cost c e = (refl, cc)
-accept-cheapest false cost c e = absurd (let z : ◌≡◌ {A = ℕ} 0 1 = cc in omega arith)
+accept-cheapest : (claim : Claim) (c : ℕ) → accepted claim ≡ Cheapest c → claim ≡ plan_claim c
+unfolding accepted
+accept-cheapest (Some cost) c e = cc
+accept-cheapest None c e = cc
 
-accept-nothing : (plan : Bool) (cost : ℕ) → accept_if plan cost ≡ Nothing → plan ≡ false
-unfolding accept_if
-accept-nothing true cost e = absurd (let z : ◌≡◌ {A = ℕ} 0 1 = cc in omega arith)
-accept-nothing false cost e = refl
+accept-nothing : (claim : Claim) → accepted claim ≡ Nothing → claim ≡ no_claim
+unfolding accepted
+accept-nothing (Some cost) e = cc
+accept-nothing None e = refl
 
-accept-not-refused : (plan : Bool) (cost number paper : ℕ) → accept_if plan cost ≡ Refused number paper → ⊥
-unfolding accept_if
-accept-not-refused true cost number paper e = let z : ◌≡◌ {A = ℕ} 0 1 = cc in omega arith
-accept-not-refused false cost number paper e = let z : ◌≡◌ {A = ℕ} 0 1 = cc in omega arith
+accept-not-refused : (claim : Claim) (number paper : ℕ) → accepted claim ≡ Refused number paper → ⊥
+unfolding accepted
+accept-not-refused (Some cost) number paper e = cc
+accept-not-refused None number paper e = cc
 
 module _ (job plan note : List ℕ) where
   -- what is claimed, and the note has no fault against it
@@ -237,25 +232,19 @@ module _ (job plan note : List ℕ) where
   cheapest-stands c e = go (way job plan note) (taken job plan note (Cheapest c) e)
     where
       go : (w : Way job plan note) → answer_of job plan note w ≡ Cheapest c → Stands (plan_claim c)
-      go (unclaimed number paper r) e = absurd (let z : ◌≡◌ {A = ℕ} 0 1 = cc in omega arith)
-      go (faulty claim number r f) e = absurd (let z : ◌≡◌ {A = ℕ} 0 1 = cc in omega arith)
-      go (faultless claim r f) e =
-          let a = accept-cheapest claim.plan claim.cost c e in
-          let same : claim ≡ plan_claim c = λ i. record { plan = a.0 i; cost = a.1 i } in
-          subst Stands same (r, f)
+      go (unclaimed number paper r) e = absurd (cc)
+      go (faulty claim number r f) e = absurd (cc)
+      go (faultless claim r f) e = subst Stands (accept-cheapest claim c e) (r, f)
 
   nothing-stands : check_note job plan note ≡ Nothing → Stands no_claim
   nothing-stands e = go (way job plan note) (taken job plan note Nothing e)
     where
       go : (w : Way job plan note) → answer_of job plan note w ≡ Nothing → Stands no_claim
-      go (unclaimed number paper r) e = absurd (let z : ◌≡◌ {A = ℕ} 0 1 = cc in omega arith)
-      go (faulty claim number r f) e = absurd (let z : ◌≡◌ {A = ℕ} 0 1 = cc in omega arith)
-      go (faultless claim r f) e =
-          let a = accept-nothing claim.plan claim.cost e in
-          ⊎_elim (λ s. absurd (let z : true ≡ false = sym (ap (λ (x : Claim). x.plan) s) ∙ a in let y : ◌≡◌ {A = ℕ} 0 1 = cc in omega arith))
-          (λ s. subst Stands s (r, f)) (claimed-either job plan claim r)
+      go (unclaimed number paper r) e = absurd (cc)
+      go (faulty claim number r f) e = absurd (cc)
+      go (faultless claim r f) e = subst Stands (accept-nothing claim e) (r, f)
 
-  stands-accepted : (claim : Claim) → Stands claim → check_note job plan note ≡ accept_if claim.plan claim.cost
+  stands-accepted : (claim : Claim) → Stands claim → check_note job plan note ≡ accepted claim
   stands-accepted claim s = answers job plan note (faultless claim s.0 s.1)
 
   -- ---- the job that is asked of is the one that was read
@@ -279,7 +268,7 @@ module _ (job plan note : List ℕ) where
 
   pub accepted-exactly : (c : ℕ) → Bytes note
       → (check_note job plan note ≡ Cheapest c) ↔ ((w : Passes job plan c) × ClosingNote (board_of w.as_job) (plan_claim c) note)
-  unfolding accept_if
+  unfolding accepted
   accepted-exactly c bytes = (
     λ e.
         let s = cheapest-stands c e in
@@ -293,7 +282,7 @@ module _ (job plan note : List ℕ) where
   pub none-accepted-exactly : Bytes note
       → (check_note job plan note ≡ Nothing)
       ↔ ((plan ≡ []) × (j : Job) × (read_job job ≡ record { answer = Read; job = j }) × ClosingNote (board_of j) no_claim note)
-  unfolding accept_if
+  unfolding accepted
   none-accepted-exactly bytes = (
     λ e.
         let s = nothing-stands e in
@@ -306,7 +295,7 @@ module _ (job plan note : List ℕ) where
 
   -- ---- sound, of any bytes
 
-  keeps : (claim : Claim) → Stands claim → (j : Job) → Reads j → (q : Plan) → Meets j q → (claim.plan ≡ true) × (claim.cost ≤ plan_cost j q)
+  keeps : (claim : Claim) → Stands claim → (j : Job) → Reads j → (q : Plan) → Meets j q → AtMost claim (plan_cost j q)
   keeps claim s j r q m =
       let t = no-fault-closes (board_asked job plan) claim note s.1 in
       closed-least job j r claim t.0
@@ -316,7 +305,7 @@ module _ (job plan note : List ℕ) where
   accepted-cheapest c e =
       let s = cheapest-stands c e in
       let w = (claimed-passes job plan c).0 s.0 in
-      record { passes = w; least = λ q m. (keeps (plan_claim c) s w.as_job w.job_read q m).1 }
+      record { passes = w; least = keeps (plan_claim c) s w.as_job w.job_read }
 
   pub accepted-none : check_note job plan note ≡ Nothing → (plan ≡ []) × NoPlan job
   accepted-none e =
@@ -326,7 +315,7 @@ module _ (job plan note : List ℕ) where
         record {
           as_job = w.1.0;
           job_read = w.1.1;
-          none-meets = λ q m. let z = (keeps no_claim s w.1.0 w.1.1 q m).0 in let y : ◌≡◌ {A = ℕ} 0 1 = cc in omega arith;
+          none-meets = keeps no_claim s w.1.0 w.1.1;
         },
       )
 
@@ -345,7 +334,7 @@ module _ (job plan note : List ℕ) where
             let a : suc number' ≡ number = cc in
             let b : paper ≡ paper_note = cc in
             note_faulty claim r (f ∙ a) (λ z. omega arith) b
-        go (faultless claim r f) e = absurd (accept-not-refused claim.plan claim.cost number paper e)
+        go (faultless claim r f) e = absurd (accept-not-refused claim number paper e)
 
     says-refused : Refusal job plan note number paper → check_note job plan note ≡ Refused number paper
     says-refused (job_unread r) = answers job plan note (unclaimed number paper ((unclaimed-exactly job plan number paper).1 (inl r)))

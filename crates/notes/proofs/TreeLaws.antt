@@ -28,12 +28,8 @@ abbrev end_of : Turn ℕ → ℕ
 end_of (goes at) = at
 end_of (stops number) = 0
 
-abbrev is_going : Turn ℕ → ℕ
-is_going (goes at) = 1
-is_going (stops number) = 0
-
 not_stopped : {A : Type 0} (number end : ℕ) → ◌≡◌ {A = Turn ℕ} (stops number) (goes end) → A
-not_stopped number end e = absurd (let z : 0 ≡ 1 = ap is_going e in omega arith)
+not_stopped number end e = absurd (cc)
 
 then-goes : (t : Turn ℕ) (f : ℕ → Turn ℕ) (end : ℕ) → and_then t f ≡ goes end → (mid : ℕ) × (t ≡ goes mid) × (f mid ≡ goes end)
 unfolding and_then

@@ -1,28 +1,25 @@
 -- What acceptance means, as a person reads it. `ClosingNote`: the note is that of a tree that is whole and closed by the marks.
 -- `CheapestPlan`: the plan meets the rules, and no plan that does costs less. `NoPlan`: no plan meets them. `Refusal`: what is refused,
 -- the job, the plan beside it or the note.
-use Rattle.std.specs.Prelude.{ℕ, ◌≤◌, ◌≡◌, List, length}
+use Rattle.std.specs.Prelude.{ℕ, ◌≤◌, ◌≡◌, List, is_some, length}
 use Rattle.basics.specs.Numbers.{paper_note}
 use Rattle.sheets.specs.JobSheet.{read_job}
 use Rattle.sheets.specs.declared.Job.{Job}
 use Rattle.sheets.specs.declared.Plan.{Plan}
-use Rattle.sheets.specs.declared.Reading.TheVariants.{Read, Refused as Unread}
-use Rattle.rules.specs.Judge.{plan_cost, judge}
+use Rattle.sheets.specs.Answers.{Read, Unread}
+use Rattle.rules.specs.Judge.{Refused as Unfit, plan_cost, judge}
 use Rattle.rules.specs.Meets.{Meets, Passes}
-use Rattle.rules.specs.declared.Judged.TheVariants.{Refused as Unfit}
 use Rattle.placing.specs.Board.{board_of}
-use Rattle.placing.specs.Closing.{Tree, ClosesBoard}
+use Rattle.placing.specs.Closing.{Claim, Tree, ClosesBoard}
 use Rattle.placing.specs.Options.{none}
 use Rattle.placing.specs.declared.Board.{Board}
-use Rattle.placing.specs.declared.Claim.{Claim}
-use Rattle.notes.specs.Check.{asked, note_fault}
+use Rattle.notes.specs.Check.{Claims, asked, note_fault}
 use Rattle.notes.specs.NoteSheet.{max_note, note_sheet}
-use Rattle.notes.specs.declared.Claimed.TheVariants.{Claims}
 
 pub record ClosingNote (b : Board) (claim : Claim) (note : List ℕ) : Type 0 where
   pub tree : Tree
   pub closes : ClosesBoard b claim b.n none tree
-  pub bytes : note ≡ note_sheet claim.plan tree
+  pub bytes : note ≡ note_sheet (is_some claim) tree
   pub short : length note ≤ max_note
 
 pub record CheapestPlan (job plan : List ℕ) (c : ℕ) : Type 0 where

@@ -1,49 +1,47 @@
 -- What the check of a note answers for any bytes: `check_note`; `checked_says` gives each case in numbers. `asked` is what is claimed of
 -- a job, which the house writer asks too.
-use Rattle.std.specs.Prelude.{ℕ, zero, suc, Bool, true, false, List, leb, eqb, length}
+use Rattle.std.specs.Prelude.{ℕ, zero, suc, ◌≡◌, Bool, true, false, List, Result, Ok, Err, Some, None, is_some, leb, eqb, length}
 use Rattle.basics.specs.Answers.{refused_says}
 use Rattle.basics.specs.Counting.{only}
-use Rattle.basics.specs.Faults.{◌or_else◌, fault_unless}
+use Rattle.basics.specs.Faults.{◌or_else◌, fault_unless, number_of, paper_of}
 use Rattle.basics.specs.Numbers.{note_long, verdict_differs, paper_note, outcome_cheapest, outcome_none}
 use Rattle.basics.specs.declared.Answer.{Answer}
+use Rattle.basics.specs.declared.refusals.Refusal.{Refusal}
 use Rattle.bits.specs.Bits.{field}
 use Rattle.sheets.specs.Groups.{runs_out, form_fault, fill_fault}
 use Rattle.sheets.specs.JobSheet.{read_job}
 use Rattle.sheets.specs.PlanSheet.{read_plan}
 use Rattle.sheets.specs.Limits.{form_bits}
 use Rattle.sheets.specs.declared.Job.{Job}
-use Rattle.sheets.specs.declared.Reading.{Reading}
-use Rattle.sheets.specs.declared.Reading.TheVariants.{Read, Refused as Unread}
-use Rattle.rules.specs.Judge.{judged}
-use Rattle.rules.specs.declared.Judged.{Judged}
-use Rattle.rules.specs.declared.Judged.TheVariants.{Passed, Refused as Unfit}
+use Rattle.sheets.specs.Answers.{Reading, Read, Unread}
+use Rattle.rules.specs.Judge.{Judged, Passed, Refused as Unfit, judged}
 use Rattle.placing.specs.Board.{board_of}
-use Rattle.placing.specs.Closing.{Turn, goes, stops}
+use Rattle.placing.specs.Closing.{Claim, Turn, goes, stops}
 use Rattle.placing.specs.Options.{none}
 use Rattle.placing.specs.declared.Board.{Board}
-use Rattle.placing.specs.declared.Claim.{Claim}
 use Rattle.notes.specs.NoteSheet.{note_form, verdict_bits, note_head, split_bits, max_note}
 use Rattle.notes.specs.Reading.{place_at}
 use Rattle.notes.specs.declared.Asked.{Asked}
-use Rattle.notes.specs.declared.Checked.{Checked}
-use Rattle.notes.specs.declared.Checked.TheVariants.{Cheapest, Nothing, Refused}
-use Rattle.notes.specs.declared.Claimed.{Claimed}
-use Rattle.notes.specs.declared.Claimed.TheVariants.{Claims, Refused as Unclaimed}
 
 -- ---- what is claimed of a job: that the plan beside it, which must pass, is a cheapest one; or, without a plan, that there is none
 
 abbrev pub plan_claim : ℕ → Claim
-plan_claim cost = record { plan = true; cost = cost }
+plan_claim cost = Some cost
 
 abbrev pub no_claim : Claim
-no_claim = record { plan = false; cost = 0 }
+no_claim = None
+
+-- a claim, or a refusal of the job, of the plan or of judging
+pub data Claimed : Type 0 where
+  Claims : Claim → Claimed
+  Unclaimed : (number paper : ℕ) → Claimed
 
 -- of a plan that was judged (`Unfit` is the judge's `Refused`)
 unfoldable pub claim_by : Judged → Claimed
 claim_by (Passed cost) = Claims (plan_claim cost)
 claim_by (Unfit number paper) = Unclaimed number paper
 
--- a paper that cannot be read ends the question there (`Unread` is the readers' `Refused`)
+-- a paper that cannot be read ends the question there
 unfoldable pub if_read : Reading → Claimed → Claimed
 if_read Read next = next
 if_read (Unread number paper) next = Unclaimed number paper
@@ -56,7 +54,12 @@ if_lent false next = next
 unfoldable pub claim_of : Job → List ℕ → Claimed
 claim_of j plan = if_lent (eqb (length plan) 0) (if_read (read_plan plan).answer (claim_by (judged j (read_plan plan).plan)))
 
-unfoldable pub asked : List ℕ → List ℕ → Asked
+-- what is claimed, beside the job that it is claimed of
+pub record AskedPapers : Type 0 where
+  pub claimed : Claimed
+  pub job : Job
+
+unfoldable pub asked : List ℕ → List ℕ → AskedPapers
 asked job plan = record { claimed = if_read (read_job job).answer (claim_of (read_job job).job plan); job = (read_job job).job }
 
 -- ---- the first fault of a note, against a claim
@@ -75,17 +78,23 @@ tree_fault note (stops number) = number
 
 unfoldable pub note_fault : Board → Claim → List ℕ → ℕ
 note_fault b claim note =
-    head_fault note claim.plan or_else tree_fault note (place_at note split_bits b claim b.n none note_head)
+    head_fault note (is_some claim) or_else tree_fault note (place_at note split_bits b claim b.n none note_head)
 
 -- ---- the check
 
-unfoldable pub accept_if : Bool → ℕ → Checked
-accept_if true cost = Cheapest cost
-accept_if false cost = Nothing
+-- accepted, as a plan that is a cheapest one or as there being none; or refused
+pub data Checked : Type 0 where
+  Cheapest : (cost : ℕ) → Checked
+  Nothing : Checked
+  Refused : (number paper : ℕ) → Checked
+
+unfoldable pub accepted : Claim → Checked
+accepted (Some cost) = Cheapest cost
+accepted None = Nothing
 
 -- accepted, or refused by the fault
 unfoldable pub checked : ℕ → Claim → Checked
-checked zero claim = accept_if claim.plan claim.cost
+checked zero claim = accepted claim
 checked (suc number) claim = Refused (suc number) paper_note
 
 unfoldable pub check_claim : Claimed → Job → List ℕ → Checked
@@ -94,6 +103,22 @@ check_claim (Unclaimed number paper) j note = Refused number paper
 
 unfoldable pub check_note : List ℕ → List ℕ → List ℕ → Checked
 check_note job plan note = check_claim (asked job plan).claimed (asked job plan).job note
+
+-- ---- the code's results
+
+abbrev pub claimed_of : Result Claim Refusal → Claimed
+claimed_of (Ok claim) = Claims claim
+claimed_of (Err r) = Unclaimed (number_of r.fault) (paper_of r.paper)
+
+-- where there is a claim the code has the job beside it; else it has the refusal alone
+abbrev pub Asks : AskedPapers → Result Asked Refusal → Type 0
+Asks a (Ok x) = a ≡ record { claimed = Claims x.claim; job = x.job }
+Asks a (Err r) = a.claimed ≡ Unclaimed (number_of r.fault) (paper_of r.paper)
+
+abbrev pub checked_of : Result Claim Refusal → Checked
+checked_of (Ok (Some cost)) = Cheapest cost
+checked_of (Ok None) = Nothing
+checked_of (Err r) = Refused (number_of r.fault) (paper_of r.paper)
 
 -- ---- each case in its numbers
 

@@ -1,17 +1,15 @@
 -- Reading the tree of a note, over any problem: `place` reads a mark and then the children, each again a place, from a bit of the
 -- note on, and goes on at the bit behind them or stops with the number of a refusal.
-use Rattle.std.specs.Prelude.{ℕ, zero, suc, ◌+◌, ◌≡◌, Bool, true, false, not, ◌&&◌, List, eqb, length}
-use Rattle.basics.specs.Faults.{◌or_else◌, fault_unless}
+use Rattle.std.specs.Prelude.{ℕ, zero, suc, ◌+◌, Result, Ok, Err, Bool, true, false, not, ◌&&◌, List, eqb, length}
+use Rattle.basics.specs.Faults.{◌or_else◌, fault_unless, number_of}
+use Rattle.basics.specs.declared.refusals.Fault.{Fault}
 use Rattle.basics.specs.Numbers.{split_broken, close_broken, cheaper}
 use Rattle.bits.specs.Bits.{field}
 use Rattle.sheets.specs.Groups.{runs_out}
-use Rattle.placing.specs.Closing.{Turn, goes, stops, goes_if, if_live, in_turn, closable, choice, split_on}
-use Rattle.placing.specs.Placing.{Placing, live}
+use Rattle.placing.specs.Closing.{Claim, Turn, goes, stops, goes_if, in_turn, closable, choice, split_on}
+use Rattle.placing.specs.Placing.{Placing}
 use Rattle.placing.specs.declared.Board.{Board}
-use Rattle.placing.specs.declared.Claim.{Claim}
 use Rattle.notes.specs.NoteSheet.{mark_bits}
-use Rattle.notes.specs.declared.Branch.{Branch}
-use Rattle.notes.specs.declared.Branch.TheVariants.{Closed, Refused}
 
 -- ---- the mark at a bit of the note
 
@@ -61,17 +59,7 @@ module _ (note : List ℕ) (w : ℕ) (Node : Type 0) (closable : Node → Bool) 
 abbrev pub place_at : List ℕ → ℕ → Board → Claim → ℕ → Placing → ℕ → Turn ℕ
 place_at note w b claim d p at = place note w Placing (closable b claim) (choice b) (split_on b) d p at
 
--- an option that was put: a place of its own where it is live, and nothing else
-abbrev pub option_read : List ℕ → ℕ → Board → Claim → ℕ → Placing → ℕ → Turn ℕ
-option_read note w b claim d p at = if_live (live b p) (place_at note w b claim d p at) at
-
--- as the code answers
-abbrev pub branch_of : Turn ℕ → Branch
-branch_of (goes at) = Closed at
-branch_of (stops number) = Refused number
-
--- what a reader of a place promises, where the definition's turn is t: its answer, and the rows as they came
-pub record Reads (t : Turn ℕ) (r : Branch) (p p' : Placing) (lows lows' : List ℕ) : Type 0 where
-  pub answers : r ≡ branch_of t
-  pub same : p' ≡ p
-  pub same-lows : lows' ≡ lows
+-- the code's result
+abbrev pub turn_of : Result ℕ Fault → Turn ℕ
+turn_of (Ok at) = goes at
+turn_of (Err fault) = stops (number_of fault)

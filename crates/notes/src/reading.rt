@@ -1,36 +1,29 @@
 // The tree of a note: a place is read as a mark and then its children, each child again a place.
-ghost use Rattle.std.specs.Prelude.{◌≡◌, ◌||◌, ◌+◌, ◌*◌, ◌<◌, ◌≤◌, ◌^◌, max, length};
-ghost use Rattle.placing.specs.Closing.{goes_if, unplaced as unplaced_in};
-ghost use Rattle.placing.specs.Board.{Leads};
-ghost use Rattle.placing.specs.Fitting.{links_hold};
-ghost use Rattle.placing.specs.Options.{put as put_row};
-ghost use Rattle.placing.specs.Ready.{board_with, placing, option_at, Ready, Tries, Settles};
-ghost use Rattle.sheets.specs.Limits.{op_cells};
-ghost use Rattle.notes.specs.NoteSheet.{max_note};
-ghost use Rattle.notes.specs.Reading.{splits, closes, split_op, mark_fault, place_at, option_read, branch_of, Reads};
+ghost use Rattle.std.specs.Prelude.{◌≡◌, ◌+◌, ◌*◌, ◌<◌, ◌≤◌, ◌^◌, true, length};
+ghost use Rattle.basics.specs.Faults.{number_of, fault_in};
+ghost use Rattle.placing.specs.Closing.{goes_if, in_turn, unplaced as unplaced_in, choice, split_on};
+ghost use Rattle.placing.specs.Options.{put};
+ghost use Rattle.placing.specs.Ready.{placing_of, option_at, Ready, Places};
+ghost use Rattle.notes.specs.NoteSheet.{split_bits, max_note};
+ghost use Rattle.notes.specs.Reading.{splits, closes, split_op, mark_fault, place_at, turn_of};
 
-use crate::Branch;
-use crate::limits::MARK_BITS;
-use basics::{fault_unless, or_else};
-use placing::Claim;
-use placing::boards::NEAR_TABLE;
+use crate::limits::{MARK_BITS, SPLIT_BITS};
+use basics::{Fault, unless};
 use placing::closing::{allowed, unplaced};
-use placing::costing::{cost_with, lower};
-use placing::fitting::{first_start, free_at, links_hold};
-use rules::model::UNIT_CELLS;
+use placing::rows::Rows;
+use placing::{Board, Claim};
 use sheets::groups::runs_out;
-use sheets::limits::*;
 
-// Closed before bit `at`, or refused by the number where that is not allowed.
-pub fn closed_if(may: bool, number: u32, at: usize) -> Branch
-    ensures { result ≡ branch_of (goes_if may number at) }
+// Beside unless, since house asks it by this name, as the definitions have it (goes_if).
+/// Closed before bit `at`, or refused by the fault where that is not allowed.
+#[tactic(auto, unfolding(placing::specs::Closing::goes_if))]
+pub fn closed_if(may: bool, fault: Fault, at: usize) -> Result<usize, Fault>
+    ensures { turn_of result ≡ goes_if may (number_of fault) at }
 {
-    if may {
-        return Branch::Closed(at);
-    }
-    Branch::Refused(number)
+    if may { Ok(at) } else { Err(fault) }
 }
 
+// That a bit is below 2^31 is asked where bits are read: these functions read of any bytes, and only a Reader's note is known to be short.
 // The mark at a bit of the note splits.
 fn splits_at(note: &[u8], at: usize) -> bool
     requires { at < 2 ^ 31 }
@@ -39,12 +32,12 @@ fn splits_at(note: &[u8], at: usize) -> bool
     bits::field(note, at, MARK_BITS) == 1
 }
 
-// The operation that it splits on, whose number has `width` bits.
-fn split_op(note: &[u8], width: usize, at: usize) -> usize
-    requires { (width ≤ 16) × (at < 2 ^ 31) }
-    ensures { result ≡ split_op note.now width at }
+// The operation that it splits on.
+fn split_op(note: &[u8], at: usize) -> usize
+    requires { at < 2 ^ 31 }
+    ensures { result ≡ split_op note.now split_bits at }
 {
-    bits::field(note, at + MARK_BITS, width) as usize
+    bits::field(note, at + MARK_BITS, SPLIT_BITS) as usize
 }
 
 // The mark at a bit of the note is there, and closes.
@@ -52,264 +45,138 @@ fn closes_at(note: &[u8], at: usize) -> bool
     requires { at < 2 ^ 31 }
     ensures { result ≡ closes note.now at }
 {
-    (runs_out(note.len(), at + MARK_BITS) == 0) & !splits_at(note, at)
+    runs_out(note.len(), at + MARK_BITS).is_ok() && !splits_at(note, at)
 }
 
+// A flag and a number, since the number's bits stand there whether the mark splits or not; an Option would be made and taken apart.
 // The fault of the mark at a bit of the note, which splits or not, on operation op; n operations are placed by `starts`, and the
 // place may be closed or not.
-fn mark_fault<'a>(
-    note: &'a [u8],
-    width: usize,
+#[tactic(auto, using(basics::proofs::FaultLaws::fault_laws), unfolding(crate::specs::Reading::mark_fault, crate::specs::Reading::fault_if))]
+fn mark_fault(
+    note: &[u8],
     at: usize,
     may: bool,
     split: bool,
     op: usize,
     n: usize,
-    starts: &'a [u16],
-) -> u32
-    requires { (width ≤ 16) × (at < 2 ^ 31) × (split ≡ splits note.now at) × (op ≡ split_op note.now width at) }
-    ensures { result ≡ mark_fault note.now width may (unplaced_in n starts.now) at }
+    starts: &[u16],
+) -> Result<(), Fault>
+    requires { (at < 2 ^ 31) × (split ≡ splits note.now at) × (op ≡ split_op note.now split_bits at) }
+    ensures { fault_in result ≡ mark_fault note.now split_bits may (unplaced_in n starts.now) at }
 {
-    let short = runs_out(note.len(), at + MARK_BITS);
+    runs_out(note.len(), at + MARK_BITS)?;
     if !split {
-        return or_else(short, fault_unless(may, basics::CLOSE_BROKEN));
+        return unless(may, Fault::CloseBroken);
     }
-    let number_short = runs_out(note.len(), at + MARK_BITS + width);
-    let broken = fault_unless(unplaced(n, starts, op), basics::SPLIT_BROKEN);
-    or_else(short, or_else(number_short, broken))
+    runs_out(note.len(), at + MARK_BITS + SPLIT_BITS)?;
+    unless(unplaced(n, starts, op), Fault::SplitBroken)
 }
 
-// The operations placed are below this, with op too.
-fn farther(reach: usize, op: usize) -> usize
-    requires { op < op_cells }
-    ensures { result ≡ max reach (op + 1) }
-{
-    if reach <= op { op + 1 } else { reach }
+// What stays the same along a tree that is read.
+#[derive(Clone, Copy)]
+pub(crate) struct Reader<'a> {
+    pub(crate) board: &'a Board,
+    pub(crate) note: &'a [u8],
+    pub(crate) claim: Claim,
+    ghost short: { length note.now ≤ max_note },
 }
 
-// Links are settled, or hold.
-fn links_kept<'a>(
-    from: &'a [u16],
-    to: &'a [u16],
-    e: u16,
-    wire: u16,
-    clock: u16,
-    times: &'a [u16],
-    delays: &'a [u16],
-    near: &'a [u16; NEAR_TABLE],
-    starts: &'a [u16; OP_CELLS],
-    insts: &'a [u16; OP_CELLS],
-    settled: bool,
-    reach: usize,
-    op: usize,
-    s: u16,
-    i: usize,
-) -> bool
-    requires { (reach ≤ op_cells) × (op < op_cells) × (i < 2 ^ 16) × (length starts.now ≡ op_cells) × Leads near.now op }
-    ensures { result ≡ settled || links_hold from.now to.now e wire clock times.now delays.now near.now starts.now insts.now reach op s i }
-{
-    if settled {
-        return true;
-    }
-    links_hold(
-        from, to, e, wire, clock, times, delays, near, starts, insts, reach, op, s, i,
-    )
-}
-
-// Reads the option of operation op at step s on instance i, which is a place of its own where it is live, and nothing else. A child
-// that is closed at once is not placed.
-#[cycle(child_place)]
-fn child<'a>(
-    n: usize,
-    k: usize,
-    t: u16,
-    e: u16,
-    wire: u16,
-    clock: u16,
-    from: &'a [u16; LINK_CELLS],
-    to: &'a [u16; LINK_CELLS],
-    types: &'a [u16; INST_CELLS],
-    costs: &'a [u16; TYPE_CELLS],
-    times: &'a [u16; UNIT_CELLS],
-    delays: &'a [u16; UNIT_CELLS],
-    spacings: &'a [u16; UNIT_CELLS],
-    lasts: &'a [u16; UNIT_CELLS],
-    near: &'a [u16; NEAR_TABLE],
-    note: &'a [u8],
-    width: usize,
-    claim: Claim,
-    at: usize,
-    left: usize,
-    reach: usize,
-    op: usize,
-    here: u32,
-    s: u16,
-    i: usize,
-    settled: bool,
-    starts: &mut [u16; OP_CELLS],
-    insts: &mut [u16; OP_CELLS],
-    lows: &mut [u16; TYPE_CELLS],
-) -> Branch
-    requires { Tries
-        (board_with n k t e wire clock from.now to.now types.now costs.now times.now delays.now spacings.now lasts.now near.now)
-        reach op (placing starts.old insts.old) lows.old here s i
-        × Settles delays.now near.now reach (placing starts.old insts.old) op s settled
-        × (length note.now ≤ max_note) × (at ≤ 8 * length note.now) × (width ≤ 16) }
-    ensures { Reads
-        (option_read note.now width
-        (board_with n k t e wire clock from.now to.now types.now costs.now times.now delays.now spacings.now lasts.now near.now)
-        claim left (put_row (placing starts.old insts.old) op (option_at s i)) at)
-        result (placing starts.old insts.old) (placing starts.new insts.new) lows.old lows.new }
-{
-    if !free_at(spacings, lasts, starts, insts, reach, op, s, i) {
-        return Branch::Closed(at);
-    }
-    if !links_kept(
-        from, to, e, wire, clock, times, delays, near, starts, insts, settled, reach, op, s, i,
-    ) {
-        return Branch::Closed(at);
-    }
-    let y = types[i] as usize;
-    let low = lows[y];
-    lows[y] = lower(low, i as u16);
-    let cost = cost_with(types, costs, lows, k, here, low, i);
-    if allowed(claim, cost) & (0 < left) & closes_at(note, at) {
-        lows[y] = low;
-        return Branch::Closed(at + MARK_BITS);
-    }
-    let start_was = starts[op];
-    let inst_was = insts[op];
-    starts[op] = s;
-    insts[op] = i as u16;
-    let branch = place(
-        n,
-        k,
-        t,
-        e,
-        wire,
-        clock,
-        from,
-        to,
-        types,
-        costs,
-        times,
-        delays,
-        spacings,
-        lasts,
-        near,
-        note,
-        width,
-        claim,
-        at,
-        left,
-        farther(reach, op),
-        cost,
-        starts,
-        insts,
-        lows,
-    );
-    starts[op] = start_was;
-    insts[op] = inst_was;
-    lows[y] = low;
-    branch
-}
-
-// Reads the place at a bit of the note, with `left` operations to place: a mark, and then the children of a split.
-#[cycle(child_place)]
-pub(crate) fn place<'a>(
-    n: usize,
-    k: usize,
-    t: u16,
-    e: u16,
-    wire: u16,
-    clock: u16,
-    from: &'a [u16; LINK_CELLS],
-    to: &'a [u16; LINK_CELLS],
-    types: &'a [u16; INST_CELLS],
-    costs: &'a [u16; TYPE_CELLS],
-    times: &'a [u16; UNIT_CELLS],
-    delays: &'a [u16; UNIT_CELLS],
-    spacings: &'a [u16; UNIT_CELLS],
-    lasts: &'a [u16; UNIT_CELLS],
-    near: &'a [u16; NEAR_TABLE],
-    note: &'a [u8],
-    width: usize,
-    claim: Claim,
-    at: usize,
-    left: usize,
-    reach: usize,
-    here: u32,
-    starts: &mut [u16; OP_CELLS],
-    insts: &mut [u16; OP_CELLS],
-    lows: &mut [u16; TYPE_CELLS],
-) -> Branch
-    requires { Ready
-        (board_with n k t e wire clock from.now to.now types.now costs.now times.now delays.now spacings.now lasts.now near.now)
-        reach (placing starts.old insts.old) lows.old here
-        × (length note.now ≤ max_note) × (at ≤ 8 * length note.now) × (width ≤ 16) }
-    ensures { Reads
-        (place_at note.now width
-        (board_with n k t e wire clock from.now to.now types.now costs.now times.now delays.now spacings.now lasts.now near.now)
-        claim left (placing starts.old insts.old) at)
-        result (placing starts.old insts.old) (placing starts.new insts.new) lows.old lows.new }
-{
-    let may = allowed(claim, here);
-    if left == 0 {
-        return closed_if(may, basics::CHEAPER, at);
-    }
-    let split = splits_at(note, at);
-    let op = split_op(note, width, at);
-    let fault = mark_fault(note, width, at, may, split, op, n, starts);
-    if fault != 0 {
-        return Branch::Refused(fault);
-    }
-    if !split {
-        return Branch::Closed(at + MARK_BITS);
-    }
-    let mut next = at + MARK_BITS + width;
-    let first = first_start(delays, near, starts, insts, op);
-    let mut s = first;
-    while s <= t as u32 {
-        let mut i: usize = 0;
-        while i < k {
-            let branch = child(
-                n,
-                k,
-                t,
-                e,
-                wire,
-                clock,
-                from,
-                to,
-                types,
-                costs,
-                times,
-                delays,
-                spacings,
-                lasts,
-                near,
-                note,
-                width,
-                claim,
-                next,
-                left - 1,
-                reach,
-                op,
-                here,
-                s as u16,
-                i,
-                (reach <= op) & (first < s),
-                starts,
-                insts,
-                lows,
-            );
-            let Branch::Closed(end) = branch else {
-                return branch;
-            };
-            next = end;
-            i += 1;
+impl Reader<'_> {
+    // An option is three numbers, as Board::fits takes it.
+    // Reads the option of operation op at step s on instance i, which is live and so a place of its own. One that is closed at once
+    // is not placed.
+    #[cycle(child_children_place)]
+    fn child(
+        &self,
+        rows: &mut Rows,
+        at: usize,
+        left: usize,
+        reach: usize,
+        here: u32,
+        op: usize,
+        s: u16,
+        i: usize,
+    ) -> Result<usize, Fault>
+        requires places { Places self.now.board.now reach op (placing_of rows.old) rows.old.lows here s i }
+        requires inside { at ≤ 8 * length self.now.note.now }
+        ensures answers { let r = self.now in
+            turn_of result ≡ place_at r.note.now split_bits r.board.now r.claim left (put (placing_of rows.old) op (option_at s i)) at }
+        ensures same { rows.new ≡ rows.old }
+    {
+        let board = self.board;
+        let low = rows.lower(board, i);
+        let cost = board.cost_with(rows, here, low, i);
+        if allowed(self.claim, cost) && 0 < left && closes_at(self.note, at) {
+            rows.raise(board, i, low);
+            return Ok(at + MARK_BITS);
         }
-        s += 1;
+        let was = rows.place(op, s, i);
+        let end = self.place(rows, at, left, reach.max(op + 1), cost);
+        rows.take_back(op, was);
+        rows.raise(board, i, low);
+        end
     }
-    Branch::Closed(next)
+
+    // Reads the children of a split on operation op, with `left` operations to place behind it: a place for each option that is live.
+    #[cycle(child_children_place)]
+    fn children(
+        &self,
+        rows: &mut Rows,
+        at: usize,
+        left: usize,
+        reach: usize,
+        here: u32,
+        op: usize,
+    ) -> Result<usize, Fault>
+        requires ready { Ready self.now.board.now reach (placing_of rows.old) rows.old.lows here }
+        requires unplaced { choice self.now.board.now (placing_of rows.old) op ≡ true }
+        requires inside { at ≤ 8 * length self.now.note.now }
+        ensures answers { let r = self.now in
+            turn_of result ≡ in_turn (place_at r.note.now split_bits r.board.now r.claim left) (split_on r.board.now (placing_of rows.old) op) at }
+        ensures same { rows.new ≡ rows.old }
+    {
+        let board = self.board;
+        let mut next = at;
+        let first = board.first_start(rows, op);
+        for s in first..=board.t as u32 {
+            let settled = (reach <= op) & (first < s);
+            for i in 0..board.k as usize {
+                if !board.fits(rows, settled, reach, op, s as u16, i) {
+                    continue;
+                }
+                next = self.child(rows, next, left, reach, here, op, s as u16, i)?;
+            }
+        }
+        Ok(next)
+    }
+
+    // What is asked of rows and of the bit changes from place to place, so it stands in each contract and not in a type.
+    // Reads the place at a bit of the note, with `left` operations to place: a mark, and then the children of a split.
+    #[cycle(child_children_place)]
+    pub(crate) fn place(
+        &self,
+        rows: &mut Rows,
+        at: usize,
+        left: usize,
+        reach: usize,
+        here: u32,
+    ) -> Result<usize, Fault>
+        requires ready { Ready self.now.board.now reach (placing_of rows.old) rows.old.lows here }
+        requires inside { at ≤ 8 * length self.now.note.now }
+        ensures answers { let r = self.now in turn_of result ≡ place_at r.note.now split_bits r.board.now r.claim left (placing_of rows.old) at }
+        ensures same { rows.new ≡ rows.old }
+    {
+        let n = self.board.n as usize;
+        let may = allowed(self.claim, here);
+        if left == 0 {
+            return closed_if(may, Fault::Cheaper, at);
+        }
+        let split = splits_at(self.note, at);
+        let op = split_op(self.note, at);
+        mark_fault(self.note, at, may, split, op, n, &rows.starts)?;
+        if !split {
+            return Ok(at + MARK_BITS);
+        }
+        self.children(rows, at + MARK_BITS + SPLIT_BITS, left - 1, reach, here, op)
+    }
 }

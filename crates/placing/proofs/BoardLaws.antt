@@ -17,11 +17,11 @@ use Rattle.sheets.specs.Limits.{op_cells, inst_cells, type_cells, max_steps}
 use Rattle.sheets.specs.declared.Job.{Job}
 use Rattle.sheets.proofs.JobRoundTrip.{job-sound}
 use Rattle.sheets.proofs.RecordLaws.{JobSound}
-use Rattle.rules.specs.Model.{behind, inst_count, type_at, types_in, time_of, spacing_of, unit_cells, unit_table}
+use Rattle.rules.specs.Model.{behind, inst_count, type_at, time_of, spacing_of, unit_cells, unit_table}
 use Rattle.rules.specs.Rules.{row_fault, chains_ok}
 use Rattle.rules.specs.Meets.{Link, RunsFit}
 use Rattle.rules.proofs.ChainRule.{chain-rule}
-use Rattle.rules.proofs.ModelLaws.{unit-cell, able-holds}
+use Rattle.rules.proofs.ModelLaws.{type-cell, unit-cell, able-holds}
 use Rattle.rules.proofs.RuleLaws.{none_row, row-none}
 use Rattle.placing.specs.declared.Board.{Board}
 use Rattle.placing.specs.Board.{unit, last_start, last_at, last_table, nearer_if, nearer, nearest, near_cells, near_at, near_table, near_of, linked, Leads, board_of, OfJob, WasRead}
@@ -149,10 +149,6 @@ type-below copies zero i h = absurd (omega arith)
 type-below copies (suc m) i h =
     let z : behind copies i m ≡ 0 = rw (lt-leb (sum_to (cell copies) (suc m)) i h) in
     omega (arith, sum_to-most (behind copies i) 1 m (λ y l. behind-small copies i y))
-
-type-cell : (copies : List ℕ) (m i : ℕ) → i < inst_cells → cell (types_in copies m) i ≡ type_at copies m i
-unfolding types_in
-type-cell copies m i l = cell-cells (type_at copies m) inst_cells inst_cells i l (omega arith)
 
 -- ---- the last start is the rule on rows
 

@@ -6,27 +6,27 @@ use mathlib.Core.Path.{◌≡◌, ◌∙◌}
 use mathlib.Core.Bool.{Bool, true, not}
 use mathlib.Core.List.{List, [], ◌∷◌}
 use mathlib.Core.Logic.{◌⊎◌, inl, inr, ⊎_elim}
+use Rattle.std.specs.Prelude.{Some, None}
 use native.Mathlib.Decide.{ℕ_discrete}
 use native.Mathlib.Omega.{arith}
 use borrow.Author.Tests.{leb-true, le-leb, ltb-true}
-use lib.Dec.{leb, ltb}
+use lib.Dec.{ltb}
 use lib.ListN.{length, length-set, length-replicate}
 use lib.Seq.{get_or-set_same, get_or-set_other}
 use Rattle.basics.specs.Tables.{cell}
-use Rattle.basics.proofs.CountLaws.{and_both, both-and}
+use Rattle.basics.proofs.CountLaws.{and_both}
 use Rattle.basics.proofs.TableLaws.{cell-replicate}
 use Rattle.sheets.specs.JobSheet.{read_job}
 use Rattle.sheets.specs.Limits.{op_cells}
 use Rattle.sheets.specs.declared.Job.{Job}
 use Rattle.sheets.specs.declared.Plan.{Plan}
-use Rattle.sheets.specs.declared.Reading.TheVariants.{Read}
+use Rattle.sheets.specs.Answers.{Read}
 use Rattle.rules.specs.Judge.{plan_cost}
 use Rattle.rules.specs.Meets.{Meets}
 use Rattle.rules.specs.Rules.{placed}
 use Rattle.placing.specs.declared.Board.{Board}
-use Rattle.placing.specs.declared.Claim.{Claim}
 use Rattle.placing.specs.Board.{board_of, OfJob}
-use Rattle.placing.specs.Closing.{Tree, Trees, whole, close, split, no_more, ◌then◌, Each, Closes, allowed, closable, unplaced, choice, split_on, ClosesBoard}
+use Rattle.placing.specs.Closing.{Tree, Trees, whole, close, split, no_more, ◌then◌, Each, Closes, Claim, allowed, AtMost, closable, unplaced, choice, split_on, ClosesBoard}
 use Rattle.placing.specs.Options.{Option, options, none, put}
 use Rattle.placing.specs.Placing.{Placing, live, cost, Part}
 use Rattle.placing.proofs.BoardLaws.{few-ops}
@@ -62,13 +62,20 @@ module _ (Node : Type 0) (closable : Node → Bool) (choice : Node → ℕ → B
 
 -- ---- a board's placings
 
-pub allowed-says : (claim : Claim) (c : ℕ) → allowed claim c ≡ true → (claim.plan ≡ true) × (claim.cost ≤ c)
+pub allowed-says : (claim : Claim) (c : ℕ) → allowed claim c ≡ true → AtMost claim c
 unfolding allowed
-allowed-says claim c h = let w = and_both claim.plan (leb claim.cost c) h in (w.0, leb-true claim.cost c w.1)
+allowed-says None c h = cc
+allowed-says (Some least) c h = leb-true least c h
 
-pub says-allowed : (claim : Claim) (c : ℕ) → claim.plan ≡ true → claim.cost ≤ c → allowed claim c ≡ true
+pub says-allowed : (claim : Claim) (c : ℕ) → AtMost claim c → allowed claim c ≡ true
 unfolding allowed
-says-allowed claim c p l = both-and claim.plan (leb claim.cost c) p (le-leb claim.cost c l)
+says-allowed None c h = absurd h
+says-allowed (Some least) c h = le-leb least c h
+
+-- what costs more is at most that too
+at_most-on : (claim : Claim) (c d : ℕ) → AtMost claim c → c ≤ d → AtMost claim d
+at_most-on None c d h l = h
+at_most-on (Some least) c d h l = omega arith
 
 -- an operation to split on is one of the board's, and not placed
 pub unplaced-below : (n : ℕ) (starts : List ℕ) (o : ℕ) → unplaced n starts o ≡ true → o < n
@@ -120,8 +127,7 @@ module _ (b : Board) (of : OfJob b) (claim : Claim) where
 
   below-rises : (p y : Placing) → Below b p y → closable b claim p ≡ true → closable b claim y ≡ true
   below-rises p y w h =
-      let a = allowed-says claim (cost b p) h in
-      says-allowed claim (cost b y) a.0 (omega (arith, a.1, part-costs b p y w.part))
+      says-allowed claim (cost b y) (at_most-on claim (cost b p) (cost b y) (allowed-says claim (cost b p) h) (part-costs b p y w.part))
 
   none_below : (y : Placing) → PlacedTo b b.n y → live b y ≡ true → Below b none y
   none_below y w alive =
@@ -135,16 +141,15 @@ module _ (b : Board) (of : OfJob b) (claim : Claim) where
 
   -- every live placing of all operations keeps the claim
   closed_all : (tree : Tree) → ClosesBoard b claim b.n none tree → (y : Placing) → PlacedTo b b.n y → live b y ≡ true
-      → (claim.plan ≡ true) × (claim.cost ≤ cost b y)
+      → AtMost claim (cost b y)
   closed_all tree h y w alive =
       allowed-says claim (cost b y)
       (closes-below Placing (closable b claim) (choice b) (split_on b) (Below b) below-reaches below-rises b.n none tree h y (none_below y w alive))
 
 pub closed-least : (sheet : List ℕ) (j : Job) → read_job sheet ≡ record { answer = Read; job = j } → (claim : Claim) (tree : Tree)
-    → ClosesBoard (board_of j) claim (board_of j).n none tree → (q : Plan) → Meets j q → (claim.plan ≡ true) × (claim.cost ≤ plan_cost j q)
+    → ClosesBoard (board_of j) claim (board_of j).n none tree → (q : Plan) → Meets j q → AtMost claim (plan_cost j q)
 closed-least sheet j read claim tree h q m =
     let of = of-job sheet j read in
     let l = meets-leaf sheet j read q m in
     let w = leaf-placed (board_of j) of l.leaf l.among in
-    let a = closed_all (board_of j) of claim tree h l.leaf w.0 w.1 in
-    (a.0, omega (arith, a.1, l.cheap))
+    at_most-on claim (cost (board_of j) l.leaf) (plan_cost j q) (closed_all (board_of j) of claim tree h l.leaf w.0 w.1) l.cheap

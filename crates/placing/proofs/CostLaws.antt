@@ -1,6 +1,6 @@
 -- The cost while rows are placed one by one: with nothing placed it is 0 (`tracks-none`), and one row more lowers its type's
 -- lowest instance and changes the cost only where it does (`tracks-put`).
-use Prim.Native.Nat.{ℕ, zero, suc, ◌*◌, ◌<◌, ◌≤◌, min}
+use Prim.Native.Nat.{ℕ, ◌*◌, ◌<◌, ◌≤◌, min}
 use mathlib.Core.Path.{◌≡◌, refl, sym, ap, ◌∙◌}
 use mathlib.Core.Bool.{Bool, true, false, ◌&&◌}
 use mathlib.Core.List.{List}
@@ -11,9 +11,11 @@ use borrow.Author.Tests.{leb-true, eqb-true, ltb-true, le-leb, lt-leb, lt-ltb, e
 use lib.Dec.{leb, eqb}
 use lib.ListN.{length, replicate}
 use lib.Seq.{get_or-set_same, get_or-set_other, set-get_or}
+use Rattle.std.proofs.lemmas.Bool.{false_from_ne_true}
+use Rattle.std.proofs.lemmas.List.{get_or-replicate}
 use Rattle.basics.specs.Counting.{sum_to, only}
 use Rattle.basics.specs.Tables.{cell}
-use Rattle.basics.proofs.CountLaws.{and_both, both-and, same_test, Some, any_to-some, some-any_to, sum_to-below, sum_to-most}
+use Rattle.basics.proofs.CountLaws.{sum_to-cong, and_both, both-and, same_test, Some, any_to-some, some-any_to, sum_to-below, sum_to-most}
 use Rattle.basics.proofs.TableLaws.{cell-replicate}
 use Rattle.sheets.specs.Limits.{op_cells, type_cells, inst_cells}
 use Rattle.rules.specs.Rules.{placed}
@@ -26,11 +28,6 @@ use Rattle.placing.specs.Costing.{reached, lowered, cost_if, cost_with, Tracks}
 use Rattle.placing.proofs.BoardLaws.{few-ops, few-insts, type-small}
 
 -- ---- costs compared
-
-pub sum_to-cong : (f g : ℕ → ℕ) (n : ℕ) → ((i : ℕ) → i < n → f i ≡ g i) → sum_to f n ≡ sum_to g n
-unfolding sum_to
-sum_to-cong f g zero h = refl
-sum_to-cong f g (suc n) h = omega (arith, sum_to-cong f g n (λ i l. h i (omega arith)), h n (omega arith))
 
 -- of selections that agree
 pub cost-cong : (costs types : List ℕ) (f g : ℕ → Bool) (k : ℕ) → ((i : ℕ) → i < k → f i ≡ g i)
@@ -71,25 +68,15 @@ module _ (b : Board) (p : Placing) (i o : ℕ) where
 
 -- ---- nothing placed
 
--- a test that does not hold
-pub fails : (t : Bool) → (t ≡ true → ⊥) → t ≡ false
-fails true h = absurd (h refl)
-fails false h = refl
-
 pub none-unplaced : (o : ℕ) → placed none.starts o ≡ true → ⊥
 none-unplaced o h = omega (arith, ltb-true 0 (cell none.starts o) h, cell-replicate op_cells o)
 
 pub none_needed : (b : Board) (i : ℕ) → needed b none i ≡ false
 unfolding needed_in
 none_needed b i =
-    fails (needed b none i) (λ e.
+    false_from_ne_true (needed b none i) (λ e.
     let w = any_to-some (wants b none i) b.n e in
     none-unplaced w.number (wants-says b none i w.number w.holds).0)
-
-cell-alike : (size x i : ℕ) → i < size → cell (replicate size x) i ≡ x
-cell-alike zero x i l = absurd (omega arith)
-cell-alike (suc size) x zero l = refl
-cell-alike (suc size) x (suc i) l = cell-alike size x i (omega arith)
 
 pub tracks-none : (b : Board) → OfJob b → Tracks b none (replicate type_cells inst_cells) 0
 unfolding cost selection_cost cost_at only
@@ -98,7 +85,7 @@ tracks-none b j =
     sum_to-most _ 0 b.k (λ i l. rw (none_needed b i) (omega arith)) in
     record {
       lowest = λ i l.
-          let e = cell-alike type_cells inst_cells (cell b.types i) (type-small b j i l) in
+          let e = get_or-replicate type_cells (cell b.types i) inst_cells 0 (type-small b j i l) in
           none_needed b i ∙ sym (rw e (lt-leb inst_cells i (omega (arith, few-insts b j))));
       costs = omega (arith, free);
     }

@@ -11,6 +11,7 @@ use borrow.Author.Tests.{eqb-true, le-leb, lt-ltb, le-ltb, eq-eqb, ne_eqb}
 use lib.Dec.{ltb, leb, eqb}
 use lib.ListN.{length, set, length-set}
 use lib.Seq.{get_or-set_same, get_or-set_other, ext_get_or}
+use Rattle.std.proofs.Math.Bool.{and-true, or-true}
 use Rattle.basics.specs.Counting.{all_to, only}
 use Rattle.basics.specs.Tables.{cell}
 use Rattle.basics.proofs.CountLaws.{and_both, both-and, asked, where-asked, same_test, all_to-each, each-all_to, some-any_to, any_to-none, either, either_left, either-right}
@@ -25,14 +26,9 @@ use Rattle.placing.specs.Board.{unit, linked, OfJob}
 use Rattle.placing.specs.Placing.{Placing, row_ok, live}
 use Rattle.placing.specs.Options.{put}
 use Rattle.placing.specs.Fitting.{in_turn_if, in_turn, pair_ok, link_fits, links_fit, share_fits, shares_fit, chained_at, chained, chains_fit, fits, end_of, first_start}
-use Rattle.placing.proofs.FitSteps.{share-empty}
 use Rattle.placing.proofs.BoardLaws.{Joining, few-ops, link-ends, joining-below, joining-apart, linked-says, says-linked, last_says, runs-rule, link-joins, link-rises, link-of, wire-is, clock-is}
 
 -- ---- tests
-
-and-true : (a : Bool) → a && true ≡ a
-and-true true = refl
-and-true false = refl
 
 -- all of four
 and-four : (a b c d : Bool) → a && b && c && d ≡ true → (a ≡ true) × (b ≡ true) × (c ≡ true) × (d ≡ true)
@@ -49,6 +45,11 @@ only_above : (test : Bool) (x s : ℕ) → s < only test x → (test ≡ true) �
 unfolding only
 only_above true x s h = (refl, h)
 only_above false x s h = absurd (omega arith)
+
+-- one that is not placed does not ask about its instance
+share-empty : (spacings starts insts : List ℕ) (s i spacing o : ℕ) → cell starts o ≡ 0 → share_fits spacings starts insts s i spacing o ≡ true
+unfolding share_fits
+share-empty spacings starts insts s i spacing o e = rw (e, or-true (not (eqb (cell insts o) i)))
 
 -- ---- the four parts of `live`
 

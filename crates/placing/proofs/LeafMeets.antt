@@ -5,7 +5,6 @@ use mathlib.Core.Path.{◌≡◌, refl, sym, ap, subst, ◌∙◌}
 use mathlib.Core.Bool.{Bool, true, ◌&&◌}
 use mathlib.Core.List.{List, [], ◌∷◌}
 use native.Mathlib.Decide.{dec_lt}
-use native.Mathlib.Nat.{le-div_iff_mul-le}
 use native.Mathlib.Omega.{arith}
 use borrow.Author.Tests.{eqb-true, eq-eqb, lt-ltb}
 use lib.Dec.{lit<}
@@ -19,15 +18,15 @@ use Rattle.sheets.specs.Limits.{op_cells, inst_cells}
 use Rattle.sheets.specs.JobSheet.{read_job}
 use Rattle.sheets.specs.declared.Job.{Job}
 use Rattle.sheets.specs.declared.Plan.{Plan}
-use Rattle.sheets.specs.declared.Reading.TheVariants.{Read}
+use Rattle.sheets.specs.Answers.{Read}
 use Rattle.sheets.proofs.JobRoundTrip.{job-sound}
 use Rattle.sheets.proofs.RecordLaws.{JobSound}
-use Rattle.rules.specs.Model.{inst_count, types_of, time_of, delay_of, spacing_of, in_steps, row_at, row_table, timing_in, unit_table}
+use Rattle.rules.specs.Model.{inst_count, types_of, time_of, delay_of, spacing_of, row_at, row_table, timing_in, unit_table}
 use Rattle.rules.specs.Rules.{placed, row_fault, row_fault_at, rows_fault, precedence_ok, resource_ok, chains_ok}
 use Rattle.rules.specs.Judge.{counts_fault, placing_fault, fault_with, judge_fault, plan_cost}
 use Rattle.rules.specs.Meets.{Link, Joined, AllIn, run_total, RunsFit, start, inst, time, Meets}
 use Rattle.rules.proofs.JudgeMeets.{none-exactly}
-use Rattle.rules.proofs.ModelLaws.{unit-cell}
+use Rattle.rules.proofs.ModelLaws.{some-step, unit-cell}
 use Rattle.rules.proofs.RuleLaws.{RowOk, none_row, row-none, says-order}
 use Rattle.placing.specs.Board.{unit, board_of, OfJob}
 use Rattle.placing.specs.Placing.{Placing, row_ok, live, cost, smallest}
@@ -41,11 +40,6 @@ use Rattle.placing.specs.Plans.{plan_from}
 
 row-tables : (f : ℕ → ℕ → ℕ) (insts : List ℕ) → ((o : ℕ) → o < op_cells → cell insts o < inst_cells) → row_table (unit (unit_table f)) insts ≡ row_table f insts
 row-tables f insts h = cells-cong (row_at (unit (unit_table f)) insts) (row_at f insts) op_cells op_cells (λ o l. unit-cell f o (cell insts o) l (h o l))
-
--- an operation that takes time takes a step
-some-step : (clock span : ℕ) → 1 ≤ clock → 0 < span → 1 ≤ in_steps clock span
-unfolding in_steps
-some-step clock span c s = (le-div_iff_mul-le {k = clock} {x = 1} {y = span + (clock - 1)} c).1 (omega arith)
 
 -- ---- the tests of judging that live has too
 

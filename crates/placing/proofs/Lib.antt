@@ -9,7 +9,8 @@ pub mod FitLaws
 pub mod HeldRows
 pub mod RowLaws
 pub mod ReadyLaws
+pub mod RowsKept
 pub mod TurnLaws
-pub mod FitSteps
+pub mod LinkSteps
 pub mod LeafMeets
 pub mod ClosingLaws

@@ -26,7 +26,8 @@ use Rattle.placing.specs.Board.{unit, board_of, OfJob}
 use Rattle.placing.specs.Placing.{Placing, row_ok, live, wants, needed, cost, Part, needed_in}
 use Rattle.placing.specs.Options.{Option, none, put}
 use Rattle.placing.proofs.BoardLaws.{board-sound}
-use Rattle.placing.proofs.CostLaws.{cost-rises, wants-says, says-wants, fails, none-unplaced}
+use Rattle.placing.proofs.CostLaws.{cost-rises, wants-says, says-wants, none-unplaced}
+use Rattle.std.proofs.lemmas.Bool.{false_from_ne_true}
 
 -- ---- the four rules, and live
 
@@ -185,7 +186,7 @@ none-joins from to l h = none-unplaced (cell from l) (and_both (placed none.star
 none-share : (spacings : List ℕ) (y x : ℕ) → share_ok none.starts none.insts spacings y x ≡ true
 none-share spacings y x =
     share-unplaced none.starts none.insts spacings y x
-    (fails (placed none.starts x && placed none.starts y) (λ t. none-unplaced x (and_both (placed none.starts x) (placed none.starts y) t).0))
+    (false_from_ne_true (placed none.starts x && placed none.starts y) (λ t. none-unplaced x (and_both (placed none.starts x) (placed none.starts y) t).0))
 
 pub none-live : (b : Board) → OfJob b → live b none ≡ true
 unfolding row_ok precedence_ok link_ok resource_ok beside_ok chains_ok run_ok same_step

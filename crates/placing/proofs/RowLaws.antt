@@ -86,11 +86,6 @@ unfolding first_start
 first-positive delays near starts insts op zero = omega arith
 first-positive delays near starts insts op (suc o) = omega (arith, first-positive delays near starts insts op o)
 
--- that of the same rows
-pub same_first : (delays near : List ℕ) (op : ℕ) {first : ℕ} {p p' : Placing} → p' ≡ p → first ≡ first_start delays near p.starts p.insts op op
-    → first ≡ first_start delays near p'.starts p'.insts op op
-same_first delays near op e f = f ∙ ap (λ (q : Placing). first_start delays near q.starts q.insts op op) (sym e)
-
 -- starts before the first are passed over
 pub first-rows : (b : Board) → OfJob b → (p : Placing) → length p.starts ≡ op_cells → length p.insts ≡ op_cells → (op : ℕ) → op < b.n → (first : ℕ)
     → first ≡ first_start b.delays b.near p.starts p.insts op op → live_ones b p op (options b) ≡ live_ones b p op (from_start b first)

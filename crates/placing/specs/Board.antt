@@ -6,7 +6,7 @@ use Rattle.basics.specs.Tables.{cell, cells}
 use Rattle.sheets.specs.JobSheet.{read_job}
 use Rattle.sheets.specs.Limits.{op_cells, inst_cells}
 use Rattle.sheets.specs.declared.Job.{Job}
-use Rattle.sheets.specs.declared.Reading.TheVariants.{Read}
+use Rattle.sheets.specs.Answers.{Read}
 use Rattle.rules.specs.Model.{inst_count, types_of, time_of, delay_of, spacing_of, unit_cells, unit_table}
 use Rattle.placing.specs.declared.Board.{Board}
 

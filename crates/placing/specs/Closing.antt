@@ -4,10 +4,9 @@
 --     Closes   the tree is whole and closed by the marks, at a node with so many choices to make
 -- Where a cost that may close still may when it rises, nothing below a closed node is cheaper: `closes-below` in proofs/ClosingLaws.
 -- At the end: the nodes of a board, which are its placings, and when a claim lets them be closed.
-use Rattle.std.specs.Prelude.{ℕ, zero, suc, ◌≡◌, Bool, true, false, not, ◌&&◌, List, [], ◌∷◌, leb, ltb}
+use Rattle.std.specs.Prelude.{ℕ, zero, suc, ◌≡◌, Bool, true, false, not, ◌&&◌, List, [], ◌∷◌, Option, Some, None, ◌≤◌, leb, ltb}
 use Rattle.rules.specs.Rules.{placed}
 use Rattle.placing.specs.declared.Board.{Board}
-use Rattle.placing.specs.declared.Claim.{Claim}
 use Rattle.placing.specs.Placing.{Placing, cost}
 use Rattle.placing.specs.Options.{options, live_ones}
 
@@ -55,11 +54,6 @@ module _ {A : Type 0} where
   goes_if true number x = goes x
   goes_if false number x = stops number
 
-  -- an option that is live takes its step, any other is passed over
-  unfoldable pub if_live : Bool → Turn A → A → Turn A
-  if_live true step x = step
-  if_live false step x = goes x
-
 module _ {Node A : Type 0} (step : Node → A → Turn A) where
   unfoldable pub in_turn : List Node → A → Turn A
   in_turn [] x = goes x
@@ -67,9 +61,19 @@ module _ {Node A : Type 0} (step : Node → A → Turn A) where
 
 -- ---- a board's placings
 
+-- a plan at a cost, or that there is none
+abbrev pub Claim : Type 0
+Claim = Option ℕ
+
 -- a cost is not below the claim's, where a plan is claimed; where none is, no cost will do
 unfoldable pub allowed : Claim → ℕ → Bool
-allowed claim c = claim.plan && leb claim.cost c
+allowed None c = false
+allowed (Some least) c = leb least c
+
+-- a plan is claimed, at c or less
+abbrev pub AtMost : Claim → ℕ → Type 0
+AtMost None c = ⊥
+AtMost (Some least) c = least ≤ c
 
 abbrev pub closable : Board → Claim → Placing → Bool
 closable b claim p = allowed claim (cost b p)

@@ -23,6 +23,9 @@ cost_if false here anew = anew
 unfoldable pub cost_with : List ℕ → List ℕ → List ℕ → ℕ → ℕ → ℕ → ℕ → ℕ
 cost_with types costs lows k here low i = cost_if (leb low i) here (selection_cost costs types (reached types lows) k)
 
+abbrev pub cost_on : Board → List ℕ → ℕ → ℕ → ℕ → ℕ
+cost_on b lows here low i = cost_with b.types b.costs lows b.k here low i
+
 pub record Tracks (b : Board) (p : Placing) (lows : List ℕ) (here : ℕ) : Type 0 where
   pub lowest : (i : ℕ) → i < b.k → needed b p i ≡ reached b.types lows i
   pub costs : here ≡ cost b p

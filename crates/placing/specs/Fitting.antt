@@ -7,6 +7,8 @@ use Rattle.basics.specs.Tables.{cell}
 use Rattle.rules.specs.Model.{row_table}
 use Rattle.rules.specs.Rules.{placed, finish, precedes, apart, chains_ok}
 use Rattle.placing.specs.Board.{unit, linked}
+use Rattle.placing.specs.Placing.{Placing}
+use Rattle.placing.specs.declared.Board.{Board}
 
 -- ---- links: operation o, which a link joins to op
 
@@ -79,3 +81,18 @@ unfoldable pub first_start : List ℕ → List ℕ → List ℕ → List ℕ →
 first_start delays near starts insts op zero = 1
 first_start delays near starts insts op (suc o) =
     max (first_start delays near starts insts op o) (only (linked near op o) (end_of delays starts insts o))
+
+-- ---- of a board and its rows
+
+abbrev pub fits_on : Board → Placing → Bool → ℕ → ℕ → ℕ → ℕ → Bool
+fits_on b p settled reach op s i =
+    fits b.from b.to b.e b.wire b.clock b.times b.delays b.spacings b.lasts b.near p.starts p.insts settled reach op s i
+
+abbrev pub free_on : Board → Placing → ℕ → ℕ → ℕ → ℕ → Bool
+free_on b p reach op s i = free_at b.spacings b.lasts p.starts p.insts reach op s i
+
+abbrev pub links_on : Board → Placing → ℕ → ℕ → ℕ → ℕ → Bool
+links_on b p reach op s i = links_hold b.from b.to b.e b.wire b.clock b.times b.delays b.near p.starts p.insts reach op s i
+
+abbrev pub first_on : Board → Placing → ℕ → ℕ
+first_on b p op = first_start b.delays b.near p.starts p.insts op op

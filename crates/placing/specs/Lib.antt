@@ -5,5 +5,6 @@ pub mod Options
 pub mod Fitting
 pub mod Costing
 pub mod Closing
+pub mod Linked
 pub mod Ready
 pub mod Plans

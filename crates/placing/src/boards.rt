@@ -5,48 +5,44 @@ ghost use Rattle.rules.specs.Model.{inst_count};
 ghost use Rattle.placing.specs.Board.{last_start, last_table, nearer as nearer_of, nearest as nearest_of, near_table, board_of};
 
 use crate::Board;
-use basics::cell;
+use basics::{cell, cells};
 use rules::model::{UNIT_CELLS, inst_count, tables_of, types_in};
 use sheets::Job;
 use sheets::limits::*;
 
+/// A cell for every x up to OP_CELLS.
 pub const NEAR_CELLS: usize = OP_CELLS + 1;
 
+/// A row of them for each operation.
 pub const NEAR_TABLE: usize = NEAR_CELLS * OP_CELLS;
 
 // The last step in which an operation of so much time and delay can start; 0 where it never can.
+#[tactic(auto, unfolding(crate::specs::Board::last_start, basics::specs::Counting::only))]
 fn last_start(t: u16, time: u16, delay: u16) -> u16
     requires { t ≤ max_steps }
     ensures { result ≡ last_start t time delay }
 {
     if time == 0 {
-        return 0;
+        0
+    } else {
+        (t + 1).saturating_sub(delay)
     }
-    if t < delay {
-        return 0;
-    }
-    t - delay + 1
 }
 
 // The same for every operation on every instance.
-fn lasts_in<'a>(t: u16, times: &'a [u16], delays: &'a [u16]) -> [u16; UNIT_CELLS]
+fn lasts_in(t: u16, times: &[u16], delays: &[u16]) -> [u16; UNIT_CELLS]
     requires { t ≤ max_steps }
     ensures { result ≡ last_table t times.now delays.now }
 {
-    let mut lasts = [0u16; UNIT_CELLS];
-    let mut c: usize = 0;
-    while c < UNIT_CELLS {
-        lasts[c] = last_start(t, cell(times, c), cell(delays, c));
-        c += 1;
-    }
-    lasts
+    std::array::from_fn(|c| last_start(t, cell(times, c), cell(delays, c)))
 }
 
 // A link joins a and y: y where a is o and y is from x on and before `far`, else that.
+#[tactic(auto, unfolding(crate::specs::Board::nearer, crate::specs::Board::nearer_if))]
 fn nearer(o: usize, x: usize, far: u16, a: u16, y: u16) -> u16
     ensures { result ≡ nearer_of o x far a y }
 {
-    if (a as usize == o) & (x <= y as usize) & (y < far) {
+    if a as usize == o && x <= y as usize && y < far {
         y
     } else {
         far
@@ -54,40 +50,35 @@ fn nearer(o: usize, x: usize, far: u16, a: u16, y: u16) -> u16
 }
 
 // The first operation from x on that one of e links joins to operation o.
-fn nearest<'a>(from: &'a [u16], to: &'a [u16], o: usize, x: usize, e: u16) -> u16
+#[tactic(auto, unfolding(crate::specs::Board::nearest))]
+fn nearest(from: &[u16], to: &[u16], o: usize, x: usize, e: u16) -> u16
     ensures { result ≡ nearest_of from.now to.now o x e }
 {
-    let links = e as usize;
     let mut far = MAX_OPS;
-    let mut l: usize = 0;
-    while l < links {
+    for l in 0..e as usize {
         let a = cell(from, l);
         let b = cell(to, l);
         far = nearer(o, x, nearer(o, x, far, a, b), b, a);
-        l += 1;
     }
     far
 }
 
 // The same for each of n operations and every x.
-fn near_in<'a>(from: &'a [u16], to: &'a [u16], e: u16, n: u16) -> [u16; NEAR_TABLE]
+fn near_in(from: &[u16], to: &[u16], e: u16, n: u16) -> [u16; NEAR_TABLE]
     requires { n ≤ op_cells }
     ensures { result ≡ near_table from.now to.now e n }
 {
-    let count = NEAR_CELLS * n as usize;
-    let mut near = [0u16; NEAR_TABLE];
-    let mut c: usize = 0;
-    while c < count {
-        near[c] = nearest(from, to, c / NEAR_CELLS, c % NEAR_CELLS, e);
-        c += 1;
-    }
-    near
+    cells(
+        NEAR_CELLS * n as usize,
+        |c| nearest(from, to, c / NEAR_CELLS, c % NEAR_CELLS, e),
+    )
 }
 
-// The board of a job within these limits, as every job read is.
-pub fn board_of(job: Job) -> Board
-    requires { (job.n ≤ op_cells) × (inst_count job ≤ inst_cells) × (job.t ≤ max_steps) }
-    ensures { result ≡ board_of job }
+/// The board of a job within these limits, as every job read is.
+#[tactic(auto, unfolding(crate::specs::Board::board_of, rules::specs::Model::tables_of))]
+pub fn board_of(job: &Job) -> Board
+    requires { let j = job.now in (j.n ≤ op_cells) × (inst_count j ≤ inst_cells) × (j.t ≤ max_steps) }
+    ensures { result ≡ board_of job.now }
 {
     let insts = inst_count(&job.copies, job.m);
     let types = types_in(&job.copies, job.m);

@@ -5,16 +5,18 @@ ghost use Rattle.placing.specs.Closing.{allowed as allowed_by, unplaced as unpla
 use crate::Claim;
 use basics::cell;
 
-// A cost is not below the claim's, where a plan is claimed; where none is, no cost will do.
+/// A cost is not below the claim's, where a plan is claimed; where none is, no cost will do.
+#[tactic(auto, unfolding(crate::specs::Closing::allowed))]
 pub fn allowed(claim: Claim, cost: u32) -> bool
     ensures { result ≡ allowed_by claim cost }
 {
-    claim.plan & (claim.cost <= cost)
+    claim.is_some_and(|least| least <= cost)
 }
 
-// Operation o is one of n, and not placed.
+/// Operation o is one of n, and not placed.
+#[tactic(auto, unfolding(crate::specs::Closing::unplaced))]
 pub fn unplaced(n: usize, starts: &[u16], o: usize) -> bool
     ensures { result ≡ unplaced_in n starts.now o }
 {
-    (o < n) & !(0 < cell(starts, o))
+    o < n && cell(starts, o) == 0
 }

@@ -1,99 +1,82 @@
 // The smallest selection and its cost, while rows are placed one by one and at the end.
-ghost use Rattle.std.specs.Prelude.{◌≡◌, ◌≤◌, min};
-ghost use Rattle.rules.specs.Selection.{selection_cost};
+ghost use Rattle.std.specs.Prelude.{◌≡◌, ◌≤◌, ◌<◌, ◌^◌};
+ghost use Rattle.rules.specs.Selection.{cost_at, selection_cost};
 ghost use Rattle.sheets.specs.Limits.{inst_cells};
-ghost use Rattle.placing.specs.Costing.{reached as reached_by, cost_with};
-ghost use Rattle.placing.specs.Placing.{wants_in, needed_in, smallest_in};
+ghost use Rattle.placing.specs.Costing.{reached, cost_on};
+ghost use Rattle.placing.specs.Placing.{wants, needed, needed_at, smallest};
+ghost use Rattle.placing.specs.Ready.{placing_of};
 
-use basics::{cell, only};
+use crate::Board;
+use crate::rows::Rows;
+use basics::{cell, cells};
 use sheets::limits::INST_CELLS;
 
-// Instance i is needed: it is not before the lowest needed one of its type.
-fn reached<'a>(types: &'a [u16], lows: &'a [u16], i: usize) -> bool
-    ensures { result ≡ reached_by types.now lows.now i }
-{
-    let y = cell(types, i) as usize;
-    cell(lows, y) as usize <= i
-}
-
-// What the needed ones of k instances cost.
-fn cost_of<'a>(types: &'a [u16], costs: &'a [u16], lows: &'a [u16], k: usize) -> u32
-    requires { k ≤ inst_cells }
-    ensures { result ≡ selection_cost costs.now types.now (reached_by types.now lows.now) k }
-{
-    let mut sum: u32 = 0;
-    let mut i: usize = 0;
-    while i < k {
-        let y = cell(types, i) as usize;
-        sum += only(reached(types, lows, i), cell(costs, y) as u32);
-        i += 1;
+impl Board {
+    /// The cost with instance i, where `rows.lows` has it already, and before the cost was `here` and its type's lowest
+    /// instance `low`.
+    #[tactic(auto, unfolding(crate::specs::Costing::cost_with, crate::specs::Costing::cost_if))]
+    pub fn cost_with(&self, rows: &Rows, here: u32, low: u16, i: usize) -> u32
+        requires { self.now.k ≤ inst_cells }
+        ensures { result ≡ cost_on self.now rows.now.lows here low i }
+    {
+        if low as usize <= i {
+            here
+        } else {
+            self.cost_of(rows)
+        }
     }
-    sum
-}
 
-// The lower of a type's lowest instance and i.
-pub fn lower(low: u16, i: u16) -> u16
-    ensures { result ≡ min low i }
-{
-    if i < low { i } else { low }
-}
-
-// The cost with instance i, where `lows` has it already, and before the cost was `here` and its type's lowest instance `low`.
-pub fn cost_with<'a>(
-    types: &'a [u16],
-    costs: &'a [u16],
-    lows: &'a [u16],
-    k: usize,
-    here: u32,
-    low: u16,
-    i: usize,
-) -> u32
-    requires { k ≤ inst_cells }
-    ensures { result ≡ cost_with types.now costs.now lows.now k here low i }
-{
-    if low as usize <= i {
-        return here;
+    // Beside rules' selection_cost, which goes by a selection's table: one for both would take the test as a closure, and with it a bound
+    // on what it lets through.
+    // What the needed instances cost.
+    #[tactic(auto, unfolding(rules::specs::Selection::selection_cost, basics::specs::Counting::sum_to))]
+    fn cost_of(&self, rows: &Rows) -> u32
+        requires { self.now.k ≤ inst_cells }
+        ensures { let b = self.now in result ≡ selection_cost b.costs b.types (reached b.types rows.now.lows) b.k }
+    {
+        let mut sum = 0;
+        for i in 0..self.k as usize {
+            sum += self.cost_at(rows, i);
+        }
+        sum
     }
-    cost_of(types, costs, lows, k)
-}
 
-// Operation o wants instance i selected: it is placed on i, or on one before i of the same type.
-fn wants<'a>(types: &'a [u16], starts: &'a [u16], insts: &'a [u16], i: usize, o: usize) -> bool
-    ensures { result ≡ wants_in types.now starts.now insts.now i o }
-{
-    let inst = cell(insts, o) as usize;
-    (0 < cell(starts, o)) & (cell(types, inst) == cell(types, i)) & (inst <= i)
-}
-
-// One of n operations does.
-fn needed<'a>(n: usize, types: &'a [u16], starts: &'a [u16], insts: &'a [u16], i: usize) -> bool
-    ensures { result ≡ needed_in n types.now starts.now insts.now i }
-{
-    let mut found = false;
-    let mut o: usize = 0;
-    while o < n {
-        found = found | wants(types, starts, insts, i, o);
-        o += 1;
+    // What instance i costs, where it is needed: it is not before the lowest needed one of its type.
+    #[tactic(auto, unfolding(rules::specs::Selection::cost_at, basics::specs::Counting::only))]
+    fn cost_at(&self, rows: &Rows, i: usize) -> u32
+        ensures { let b = self.now in (result ≡ cost_at b.costs b.types (reached b.types rows.now.lows) i) × (result < 2 ^ 16) }
+    {
+        let y = cell(&self.types, i) as usize;
+        if cell(&rows.lows, y) as usize <= i {
+            cell(&self.costs, y) as u32
+        } else {
+            0
+        }
     }
-    found
-}
 
-// The smallest selection of k instances that holds those in use and keeps selection order.
-pub fn smallest<'a>(
-    n: usize,
-    k: usize,
-    types: &'a [u16],
-    starts: &'a [u16],
-    insts: &'a [u16],
-) -> [u16; INST_CELLS]
-    requires { k ≤ inst_cells }
-    ensures { result ≡ smallest_in n k types.now starts.now insts.now }
-{
-    let mut selection = [0u16; INST_CELLS];
-    let mut i: usize = 0;
-    while i < k {
-        selection[i] = only(needed(n, types, starts, insts, i), 1) as u16;
-        i += 1;
+    /// The smallest selection of the board's instances that holds those in use and keeps selection order.
+    #[tactic(auto, unfolding(crate::specs::Placing::smallest_in))]
+    pub fn smallest(&self, rows: &Rows) -> [u16; INST_CELLS]
+        requires { self.now.k ≤ inst_cells }
+        ensures { result ≡ smallest self.now (placing_of rows.now) }
+    {
+        cells(self.k as usize, |i| u16::from(self.needed(rows, i)))
     }
-    selection
+
+    // Instance i is wanted by one of the operations.
+    #[tactic(auto, unfolding(crate::specs::Placing::needed_in))]
+    fn needed(&self, rows: &Rows, i: usize) -> bool
+        ensures { result ≡ needed self.now (placing_of rows.now) i }
+    {
+        (0..self.n as usize).any(|o| self.wants(rows, i, o))
+    }
+
+    // Operation o wants instance i selected: it is placed on i, or on one before i of the same type.
+    #[tactic(auto, unfolding(crate::specs::Placing::wants_in))]
+    fn wants(&self, rows: &Rows, i: usize, o: usize) -> bool
+        ensures { result ≡ wants self.now (placing_of rows.now) i o }
+    {
+        let inst = cell(&rows.insts, o) as usize;
+        0 < cell(&rows.starts, o) && cell(&self.types, inst) == cell(&self.types, i) && inst <= i
+    }
 }

@@ -1,24 +1,20 @@
-// One more row, operation op at step s on instance i, against rows placed before, all of them below `reach`.
-ghost use Rattle.std.specs.Prelude.{◌≡◌, ◌<◌, ◌≤◌, ◌^◌, max, length};
+// One more row, operation op at step s on instance i, against rows placed before, all of them below `reach`. That these are within
+// the tables is asked in each contract: loops count in them, so they are numbers and no types.
+ghost use Rattle.std.specs.Prelude.{◌≡◌, ◌<◌, ◌≤◌, ◌^◌};
 ghost use Rattle.sheets.specs.Limits.{op_cells, inst_cells};
 ghost use Rattle.rules.specs.Model.{row_table};
-ghost use Rattle.rules.specs.Rules.{finish as finish_of};
-ghost use Rattle.placing.specs.Board.{unit, near_of, Leads};
-ghost use Rattle.placing.specs.Fitting.{in_turn, pair_ok, links_fit, share_fits, shares_fit, chained as chained_in, chains_fit, free_at, links_hold, fits as fits_in, end_of, first_start};
+ghost use Rattle.placing.specs.Board.{unit, Leads};
+ghost use Rattle.placing.specs.Fitting.{in_turn, pair_ok, links_fit, share_fits, shares_fit, chained as chained_in, chains_fit, end_of, fits_on, free_on, links_on, first_on};
+ghost use Rattle.placing.specs.Ready.{placing_of};
 
-use crate::boards::{NEAR_CELLS, NEAR_TABLE};
+use crate::Board;
+use crate::rows::Rows;
 use basics::cell;
 use rules::chains::chains_ok;
 use rules::precedence::precedes;
 use rules::resource::spaced;
 use rules::rows::finish;
 use sheets::limits::*;
-
-fn wide(x: u16) -> usize
-    ensures { (result ≡ x) × (result < 2 ^ 16) }
-{
-    x as usize
-}
 
 // Operation o on instance i, in a table over both.
 fn unit_at(table: &[u16], o: usize, i: usize) -> u16
@@ -28,328 +24,162 @@ fn unit_at(table: &[u16], o: usize, i: usize) -> u16
     cell(table, INST_CELLS * o + i)
 }
 
-// The first operation from x on that a link joins to operation o.
-fn near_at(near: &[u16; NEAR_TABLE], o: usize, x: usize) -> usize
-    requires { (o < op_cells) × (x ≤ op_cells) }
-    ensures { result ≡ near_of near.now o x }
-{
-    wide(near[NEAR_CELLS * o + x])
-}
-
-// Operation o, which a link joins to op, is not placed, or the earlier of the two precedes the other.
-fn in_turn<'a>(
-    delays: &'a [u16],
-    starts: &'a [u16; OP_CELLS],
-    insts: &'a [u16; OP_CELLS],
-    op: usize,
-    s: u16,
-    delay: u16,
-    o: usize,
-) -> bool
-    requires { o < op_cells }
-    ensures { result ≡ in_turn delays.now starts.now insts.now op s delay o }
-{
-    let start = starts[o];
-    if start == 0 {
-        return true;
+impl Board {
+    // `settled` is a switch: links that were settled for one start are for the next.
+    // An option is three numbers, op, s and i, as the loops over options have them: a struct would be made for each, and taken apart here.
+    /// Operation op can be placed at step s on instance i. Where its links are settled, because those that they join to it end
+    /// before that step, they are not asked.
+    #[inline]
+    #[tactic(auto, unfolding(crate::specs::Fitting::fits))]
+    pub fn fits(
+        &self,
+        rows: &Rows,
+        settled: bool,
+        reach: usize,
+        op: usize,
+        s: u16,
+        i: usize,
+    ) -> bool
+        requires { (reach ≤ op_cells) × (op < op_cells) × (i < 2 ^ 16) × Leads self.now.near op }
+        ensures { result ≡ fits_on self.now (placing_of rows.now) settled reach op s i }
+    {
+        self.free_at(rows, reach, op, s, i) && (settled || self.links_hold(rows, reach, op, s, i))
     }
-    let other = unit_at(delays, o, wide(insts[o]));
-    if o < op {
-        return precedes(start, other, s, delay);
-    }
-    precedes(s, delay, start, other)
-}
 
-// Operation o is not in step s, or the run of the two is within the clock.
-fn pair_ok<'a>(
-    times: &'a [u16],
-    starts: &'a [u16; OP_CELLS],
-    insts: &'a [u16; OP_CELLS],
-    wire: u16,
-    clock: u16,
-    s: u16,
-    time: u16,
-    o: usize,
-) -> bool
-    requires { o < op_cells }
-    ensures { result ≡ pair_ok times.now starts.now insts.now wire clock s time o }
-{
-    if starts[o] != s {
-        return true;
+    /// Operation op is done in time if it starts at step s on instance i, and the instance is free then.
+    #[inline]
+    pub fn free_at(&self, rows: &Rows, reach: usize, op: usize, s: u16, i: usize) -> bool
+        requires { (reach ≤ op_cells) × (op < op_cells) × (i < 2 ^ 16) }
+        ensures { result ≡ free_on self.now (placing_of rows.now) reach op s i }
+    {
+        s <= unit_at(&self.lasts, op, i)
+            && self.shares_fit(rows, reach, s, i, unit_at(&self.spacings, op, i))
     }
-    let other = unit_at(times, o, wide(insts[o]));
-    time as u32 + wire as u32 + other as u32 <= clock as u32
-}
 
-// Each operation that a link joins to op is in turn, and in one step with it within the clock.
-fn links_fit<'a>(
-    times: &'a [u16],
-    delays: &'a [u16],
-    near: &'a [u16; NEAR_TABLE],
-    starts: &'a [u16; OP_CELLS],
-    insts: &'a [u16; OP_CELLS],
-    wire: u16,
-    clock: u16,
-    reach: usize,
-    op: usize,
-    s: u16,
-    time: u16,
-    delay: u16,
-) -> bool
-    requires { (reach ≤ op_cells) × (op < op_cells) × Leads near.now op }
-    ensures { result ≡ links_fit times.now delays.now near.now starts.now insts.now wire clock reach op s time delay }
-{
-    let mut o = near_at(near, op, 0);
-    while o < reach {
-        let turn = in_turn(delays, starts, insts, op, s, delay, o);
-        if !(turn & pair_ok(times, starts, insts, wire, clock, s, time, o)) {
-            return false;
+    /// Precedence and chains hold if operation op starts at step s on instance i.
+    // out of line: most options are not free, and their loops stay small
+    #[inline(never)]
+    pub fn links_hold(&self, rows: &Rows, reach: usize, op: usize, s: u16, i: usize) -> bool
+        requires { (reach ≤ op_cells) × (op < op_cells) × (i < 2 ^ 16) × Leads self.now.near op }
+        ensures { result ≡ links_on self.now (placing_of rows.now) reach op s i }
+    {
+        let time = unit_at(&self.times, op, i);
+        let delay = unit_at(&self.delays, op, i);
+        self.links_fit(rows, reach, op, s, time, delay)
+            && (!self.chained(rows, reach, op, s) || self.chains_fit(rows, op, s, time))
+    }
+
+    /// A step before which operation op cannot start: the latest end of those before it that a link joins to it, at least 1.
+    pub fn first_start(&self, rows: &Rows, op: usize) -> u32
+        requires { (op < op_cells) × Leads self.now.near op }
+        ensures { result ≡ first_on self.now (placing_of rows.now) op }
+    {
+        let mut first: u32 = 1;
+        for o in self.linked(op, op) {
+            first = first.max(self.end_of(rows, o));
         }
-        o = near_at(near, op, o + 1);
+        first
     }
-    true
-}
 
-// Operation o is not on instance i, not placed, or starts apart from s.
-fn share_fits<'a>(
-    spacings: &'a [u16],
-    starts: &'a [u16; OP_CELLS],
-    insts: &'a [u16; OP_CELLS],
-    s: u16,
-    i: usize,
-    spacing: u16,
-    o: usize,
-) -> bool
-    requires { (o < op_cells) × (i < 2 ^ 16) }
-    ensures { result ≡ share_fits spacings.now starts.now insts.now s i spacing o }
-{
-    if wide(insts[o]) != i {
-        return true;
+    // Each operation that a link joins to op is in turn, and in one step with it within the clock.
+    fn links_fit(&self, rows: &Rows, reach: usize, op: usize, s: u16, time: u16, delay: u16) -> bool
+        requires { (reach ≤ op_cells) × (op < op_cells) × Leads self.now.near op }
+        ensures { let b = self.now in result ≡ links_fit b.times b.delays b.near rows.now.starts rows.now.insts b.wire b.clock reach op s time delay }
+    {
+        self.linked(op, reach).all(|o| self.in_turn(rows, op, s, delay, o)
+            && self.pair_ok(rows, s, time, o))
     }
-    let start = starts[o];
-    if start == 0 {
-        return true;
-    }
-    spaced(s, spacing, start) | spaced(start, unit_at(spacings, o, i), s)
-}
 
-// The same of each operation placed.
-fn shares_fit<'a>(
-    spacings: &'a [u16],
-    starts: &'a [u16; OP_CELLS],
-    insts: &'a [u16; OP_CELLS],
-    reach: usize,
-    s: u16,
-    i: usize,
-    spacing: u16,
-) -> bool
-    requires { (reach ≤ op_cells) × (i < 2 ^ 16) }
-    ensures { result ≡ shares_fit spacings.now starts.now insts.now reach s i spacing }
-{
-    let mut o: usize = 0;
-    while o < reach {
-        if !share_fits(spacings, starts, insts, s, i, spacing, o) {
-            return false;
-        }
-        o += 1;
-    }
-    true
-}
-
-// An operation that a link joins to op is placed in step s.
-fn chained<'a>(
-    near: &'a [u16; NEAR_TABLE],
-    starts: &'a [u16; OP_CELLS],
-    reach: usize,
-    op: usize,
-    s: u16,
-) -> bool
-    requires { (reach ≤ op_cells) × (op < op_cells) × Leads near.now op }
-    ensures { result ≡ chained_in near.now starts.now reach op s }
-{
-    let mut o = near_at(near, op, 0);
-    while o < reach {
-        if starts[o] == s {
+    // Operation o, which a link joins to op, is not placed, or the earlier of the two precedes the other.
+    #[tactic(auto, unfolding(crate::specs::Fitting::in_turn, crate::specs::Fitting::in_turn_if))]
+    fn in_turn(&self, rows: &Rows, op: usize, s: u16, delay: u16, o: usize) -> bool
+        requires { o < op_cells }
+        ensures { result ≡ in_turn self.now.delays rows.now.starts rows.now.insts op s delay o }
+    {
+        let start = rows.starts[o];
+        if start == 0 {
             return true;
         }
-        o = near_at(near, op, o + 1);
+        let other = unit_at(&self.delays, o, rows.insts[o] as usize);
+        if o < op {
+            precedes(start, other, s, delay)
+        } else {
+            precedes(s, delay, start, other)
+        }
     }
-    false
-}
 
-// Each operation's time on its instance.
-fn times_in<'a>(times: &'a [u16], insts: &'a [u16; OP_CELLS]) -> [u16; OP_CELLS]
-    ensures { result ≡ row_table (unit times.now) insts.now }
-{
-    let mut row_times = [0u16; OP_CELLS];
-    let mut o: usize = 0;
-    while o < OP_CELLS {
-        row_times[o] = unit_at(times, o, wide(insts[o]));
-        o += 1;
+    // Operation o is not in step s, or the run of the two is within the clock.
+    #[tactic(auto, unfolding(crate::specs::Fitting::pair_ok))]
+    fn pair_ok(&self, rows: &Rows, s: u16, time: u16, o: usize) -> bool
+        requires { o < op_cells }
+        ensures { result ≡ pair_ok self.now.times rows.now.starts rows.now.insts self.now.wire self.now.clock s time o }
+    {
+        let other = unit_at(&self.times, o, rows.insts[o] as usize);
+        rows.starts[o] != s || time as u32 + self.wire as u32 + other as u32 <= self.clock as u32
     }
-    row_times
-}
 
-// The rule on chains, with operation op of so much time in step s.
-fn chains_fit<'a>(
-    from: &'a [u16],
-    to: &'a [u16],
-    e: u16,
-    wire: u16,
-    clock: u16,
-    times: &'a [u16],
-    starts: &'a [u16; OP_CELLS],
-    insts: &'a [u16; OP_CELLS],
-    op: usize,
-    s: u16,
-    time: u16,
-) -> bool
-    requires { (op < op_cells) × (length starts.now ≡ op_cells) }
-    ensures { result ≡ chains_fit from.now to.now e wire clock times.now starts.now insts.now op s time }
-{
-    let mut with = *starts;
-    with[op] = s;
-    let mut row_times = times_in(times, insts);
-    row_times[op] = time;
-    chains_ok(from, to, e, wire, clock, &with, &row_times)
-}
-
-// Operation op is done in time if it starts at step s on instance i, and the instance is free then.
-pub fn free_at<'a>(
-    spacings: &'a [u16],
-    lasts: &'a [u16],
-    starts: &'a [u16; OP_CELLS],
-    insts: &'a [u16; OP_CELLS],
-    reach: usize,
-    op: usize,
-    s: u16,
-    i: usize,
-) -> bool
-    requires { (reach ≤ op_cells) × (op < op_cells) × (i < 2 ^ 16) }
-    ensures { result ≡ free_at spacings.now lasts.now starts.now insts.now reach op s i }
-{
-    if unit_at(lasts, op, i) < s {
-        return false;
+    // An operation that a link joins to op is placed in step s.
+    fn chained(&self, rows: &Rows, reach: usize, op: usize, s: u16) -> bool
+        requires { (reach ≤ op_cells) × (op < op_cells) × Leads self.now.near op }
+        ensures { result ≡ chained_in self.now.near rows.now.starts reach op s }
+    {
+        self.linked(op, reach).any(|o| rows.starts[o] == s)
     }
-    let spacing = unit_at(spacings, op, i);
-    shares_fit(spacings, starts, insts, reach, s, i, spacing)
-}
 
-// Precedence and chains hold if operation op starts at step s on instance i.
-pub fn links_hold<'a>(
-    from: &'a [u16],
-    to: &'a [u16],
-    e: u16,
-    wire: u16,
-    clock: u16,
-    times: &'a [u16],
-    delays: &'a [u16],
-    near: &'a [u16; NEAR_TABLE],
-    starts: &'a [u16; OP_CELLS],
-    insts: &'a [u16; OP_CELLS],
-    reach: usize,
-    op: usize,
-    s: u16,
-    i: usize,
-) -> bool
-    requires { (reach ≤ op_cells) × (op < op_cells) × (i < 2 ^ 16) × (length starts.now ≡ op_cells) × Leads near.now op }
-    ensures { result ≡ links_hold from.now to.now e wire clock times.now delays.now near.now starts.now insts.now reach op s i }
-{
-    let time = unit_at(times, op, i);
-    let delay = unit_at(delays, op, i);
-    if !links_fit(
-        times, delays, near, starts, insts, wire, clock, reach, op, s, time, delay,
-    ) {
-        return false;
+    // The rule on chains, with operation op of so much time in step s.
+    #[tactic(auto, unfolding(crate::specs::Fitting::chains_fit))]
+    fn chains_fit(&self, rows: &Rows, op: usize, s: u16, time: u16) -> bool
+        requires { op < op_cells }
+        ensures { let b = self.now in result ≡ chains_fit b.from b.to b.e b.wire b.clock b.times rows.now.starts rows.now.insts op s time }
+    {
+        let mut starts = rows.starts;
+        starts[op] = s;
+        let mut times = self.times_in(rows);
+        times[op] = time;
+        chains_ok(
+            &self.from, &self.to, self.e, self.wire, self.clock, &starts, &times,
+        )
     }
-    if !chained(near, starts, reach, op, s) {
-        return true;
-    }
-    chains_fit(from, to, e, wire, clock, times, starts, insts, op, s, time)
-}
 
-// Operation op can be placed at step s on instance i. Where its links are settled, because those that they join to it end before
-// that step, they are not asked.
-pub fn fits<'a>(
-    from: &'a [u16],
-    to: &'a [u16],
-    e: u16,
-    wire: u16,
-    clock: u16,
-    times: &'a [u16],
-    delays: &'a [u16],
-    spacings: &'a [u16],
-    lasts: &'a [u16],
-    near: &'a [u16; NEAR_TABLE],
-    starts: &'a [u16; OP_CELLS],
-    insts: &'a [u16; OP_CELLS],
-    settled: bool,
-    reach: usize,
-    op: usize,
-    s: u16,
-    i: usize,
-) -> bool
-    requires { (reach ≤ op_cells) × (op < op_cells) × (i < 2 ^ 16) × (length starts.now ≡ op_cells) × Leads near.now op }
-    ensures { result ≡ fits_in from.now to.now e wire clock times.now delays.now spacings.now lasts.now near.now starts.now insts.now settled reach op s i }
-{
-    if !free_at(spacings, lasts, starts, insts, reach, op, s, i) {
-        return false;
+    // Each operation's time on its instance.
+    fn times_in(&self, rows: &Rows) -> [u16; OP_CELLS]
+        ensures { result ≡ row_table (unit self.now.times) rows.now.insts }
+    {
+        std::array::from_fn(|o| unit_at(&self.times, o, rows.insts[o] as usize))
     }
-    if settled {
-        return true;
+
+    // Each operation placed on instance i starts apart from step s.
+    fn shares_fit(&self, rows: &Rows, reach: usize, s: u16, i: usize, spacing: u16) -> bool
+        requires { (reach ≤ op_cells) × (i < 2 ^ 16) }
+        ensures { result ≡ shares_fit self.now.spacings rows.now.starts rows.now.insts reach s i spacing }
+    {
+        (0..reach).all(|o| self.share_fits(rows, s, i, spacing, o))
     }
-    links_hold(
-        from, to, e, wire, clock, times, delays, near, starts, insts, reach, op, s, i,
-    )
-}
 
-// The later of two steps.
-fn later(a: u32, b: u32) -> u32
-    ensures { result ≡ max a b }
-{
-    if a < b { b } else { a }
-}
-
-// The step in which an operation ends, not before its start.
-fn end_by(start: u16, delay: u16) -> u32
-    ensures { result ≡ max start (finish_of start delay) }
-{
-    later(start as u32, finish(start, delay))
-}
-
-// The same of operation o, 0 where it is not placed.
-fn end_of<'a>(
-    delays: &'a [u16],
-    starts: &'a [u16; OP_CELLS],
-    insts: &'a [u16; OP_CELLS],
-    o: usize,
-) -> u32
-    requires { o < op_cells }
-    ensures { result ≡ end_of delays.now starts.now insts.now o }
-{
-    let start = starts[o];
-    if start == 0 {
-        return 0;
+    // Operation o is not on instance i, not placed, or starts apart from s.
+    #[tactic(auto, unfolding(crate::specs::Fitting::share_fits, rules::specs::Rules::apart))]
+    fn share_fits(&self, rows: &Rows, s: u16, i: usize, spacing: u16, o: usize) -> bool
+        requires { (o < op_cells) × (i < 2 ^ 16) }
+        ensures { result ≡ share_fits self.now.spacings rows.now.starts rows.now.insts s i spacing o }
+    {
+        if rows.insts[o] as usize != i {
+            return true;
+        }
+        let start = rows.starts[o];
+        start == 0 || spaced(s, spacing, start) | spaced(start, unit_at(&self.spacings, o, i), s)
     }
-    end_by(start, unit_at(delays, o, wide(insts[o])))
-}
 
-// A step before which operation op cannot start: the latest end of those before it that a link joins to it, at least 1.
-pub fn first_start<'a>(
-    delays: &'a [u16],
-    near: &'a [u16; NEAR_TABLE],
-    starts: &'a [u16; OP_CELLS],
-    insts: &'a [u16; OP_CELLS],
-    op: usize,
-) -> u32
-    requires { (op < op_cells) × Leads near.now op }
-    ensures { result ≡ first_start delays.now near.now starts.now insts.now op op }
-{
-    let mut first: u32 = 1;
-    let mut o = near_at(near, op, 0);
-    while o < op {
-        first = later(first, end_of(delays, starts, insts, o));
-        o = near_at(near, op, o + 1);
+    // The step in which operation o ends, not before its start; 0 where it is not placed.
+    #[tactic(auto, unfolding(crate::specs::Fitting::end_of, basics::specs::Counting::only))]
+    fn end_of(&self, rows: &Rows, o: usize) -> u32
+        requires { o < op_cells }
+        ensures { result ≡ end_of self.now.delays rows.now.starts rows.now.insts o }
+    {
+        let start = rows.starts[o];
+        if start == 0 {
+            return 0;
+        }
+        let delay = unit_at(&self.delays, o, rows.insts[o] as usize);
+        finish(start, delay).max(start as u32)
     }
-    first
 }

@@ -1,28 +1,25 @@
 -- Laws of the judge's answer.
 use Prim.Native.Nat.{ℕ, zero, suc}
 use mathlib.Core.Path.{◌≡◌, refl, sym, ap, ◌∙◌}
-use mathlib.Core.Bool.{Bool, not, ◌||◌}
+use mathlib.Core.Bool.{Bool, true}
 use mathlib.Core.List.{List}
 use borrow.Author.Tests.{eqb-true}
 use lib.Dec.{eqb, lit<}
-use Rattle.basics.specs.Faults.{◌or_else◌, fault_unless}
-use Rattle.basics.specs.Numbers.{counts_differ, order_broken, paper_plan}
+use Rattle.std.specs.Prelude.{Result, Ok, Err}
+use Rattle.basics.specs.Faults.{number_of, paper_of}
+use Rattle.basics.specs.Numbers.{counts_differ, paper_plan}
+use Rattle.basics.specs.declared.refusals.Fault.{Fault}
+use Rattle.basics.specs.declared.refusals.Refusal.{Refusal}
+use Rattle.basics.proofs.AnswerLaws.{refusal-one}
 use Rattle.basics.proofs.CountLaws.{and_both}
-use Rattle.basics.proofs.FaultLaws.{or_else-none, unless-none}
-use Rattle.sheets.specs.JobSheet.{read_job}
-use Rattle.sheets.specs.PlanSheet.{no_plan, read_plan}
+use Rattle.basics.proofs.FaultLaws.{number-some, or_else-none, unless-none}
+use Rattle.sheets.specs.JobSheet.{JobRead, read_job, job_read_of}
+use Rattle.sheets.specs.PlanSheet.{PlanRead, read_plan, plan_read_of}
 use Rattle.sheets.specs.declared.Job.{Job}
-use Rattle.sheets.specs.declared.JobRead.{JobRead}
-use Rattle.sheets.specs.declared.PlanRead.{PlanRead}
-use Rattle.sheets.specs.declared.Reading.TheVariants.{Read, Refused as Unread}
 use Rattle.sheets.specs.declared.Plan.{Plan}
-use Rattle.rules.specs.Model.{inst_count, types_of, timing_in}
-use Rattle.rules.specs.Selection.{selected, order_ok, selection_cost}
-use Rattle.rules.specs.Rules.{rows_fault}
-use Rattle.rules.specs.Judge.{counts_fault, placing_fault, fault_with, plan_cost, pass_or, judged_with, if_read, judge_with, plan_beside, lent}
-use Rattle.rules.specs.declared.Timing.{Timing}
-use Rattle.rules.specs.declared.Judged.{Judged}
-use Rattle.rules.specs.declared.Judged.TheVariants.{Refused}
+use Rattle.rules.specs.Model.{inst_count, types_of}
+use Rattle.rules.specs.Selection.{selected, selection_cost}
+use Rattle.rules.specs.Judge.{counts_fault, fault_with, plan_cost, Passed, Refused, pass_or, judged_with, if_read, judge_with, judge, plan_beside, LentPapers, lent, judged_of, Lends}
 use Rattle.rules.specs.declared.Lent.{Lent}
 
 pub counts-agree : (order : Bool) (j : Job) (p : Plan) → fault_with order j p ≡ 0 → (p.n ≡ j.n) × (p.k ≡ inst_count j)
@@ -31,56 +28,89 @@ counts-agree order j p h =
     let a = and_both (eqb p.n j.n) (eqb p.k (inst_count j)) (unless-none _ counts_differ (lit< tt) (or_else-none _ _ h).0) in
     (eqb-true _ _ a.0, eqb-true _ _ a.1)
 
--- the tests of a job and a plan, one by one
-pub fault-is : (order : Bool) (j : Job) (p : Plan) (k : ℕ) (types : List ℕ) (timing : Timing) (counts ordered rows placing fault : ℕ) (in_order : Bool)
-    → k ≡ inst_count j → types ≡ types_of j → timing ≡ timing_in types j.clock j.kinds j.times j.intervals p.insts
-    → counts ≡ counts_fault p.n p.k j.n k → in_order ≡ order_ok types p.selection k
-    → rows ≡ rows_fault j.n k j.t p.starts p.insts timing.times timing.delays p.selection
-    → placing ≡ placing_fault j.n j.e j.wire j.clock j.from j.to p.starts p.insts timing
-    → ordered ≡ fault_unless (not order || in_order) order_broken → fault ≡ counts or_else (ordered or_else (rows or_else placing)) → fault ≡ fault_with order j p
-unfolding fault_with
-fault-is order j p k types timing counts ordered rows placing fault in_order ek et em ec eo er ep ef e =
-    e ∙ rw (ef, ec, eo, er, ep, em, et, ek)
+-- ---- judged by the first rule that a plan breaks, and where it breaks none by its cost
 
-pub refused-by : (fault cost : ℕ) → (fault ≡ 0 → ⊥) → Refused fault paper_plan ≡ pass_or fault cost
-unfolding pass_or
-refused-by zero cost h = absurd (h refl)
-refused-by (suc k) cost h = refl
+module _ (order : Bool) (j : Job) (p : Plan) where
+  -- the counts agree, so the plan's K instances are the job's
+  pub passes-at : (cost : ℕ) → 0 ≡ fault_with order j p → cost ≡ selection_cost j.costs (types_of j) (selected p.selection) p.k
+      → Passed cost ≡ judged_with order j p
+  unfolding judged_with pass_or plan_cost
+  passes-at cost e d =
+      let k = d ∙ ap (selection_cost j.costs (types_of j) (selected p.selection)) (counts-agree order j p (sym e)).1 in
+      ap (λ (c : ℕ). Passed c) k ∙ ap (λ (f : ℕ). pass_or f (plan_cost j p)) e
 
--- where the counts agree, the plan's K instances are the job's
-pub judged-is : (order : Bool) (j : Job) (p : Plan) (fault cost : ℕ) (v : Judged) → fault ≡ fault_with order j p → cost ≡ selection_cost j.costs (types_of j) (selected p.selection) p.k
-    → v ≡ pass_or fault cost → v ≡ judged_with order j p
-unfolding judged_with pass_or plan_cost
-judged-is order j p zero cost v e d h =
-    let k = d ∙ ap (selection_cost j.costs (types_of j) (selected p.selection)) (counts-agree order j p (sym e)).1 in
-    h ∙ ap (λ (c : ℕ). pass_or 0 c) k ∙ ap (λ (f : ℕ). pass_or f (plan_cost j p)) e
-judged-is order j p (suc k) cost v e d h = h ∙ ap (λ (f : ℕ). pass_or f (plan_cost j p)) e
+  pub refused-at : (fault : Fault) → number_of fault ≡ fault_with order j p → Refused (number_of fault) paper_plan ≡ judged_with order j p
+  unfolding judged_with pass_or
+  refused-at fault e = go (fault_with order j p) refl
+    where
+      go : (n : ℕ) → fault_with order j p ≡ n → Refused (number_of fault) paper_plan ≡ pass_or (fault_with order j p) (plan_cost j p)
+      go zero h = absurd (number-some fault (e ∙ h))
+      go (suc k) h = rw (e, h)
 
--- ---- a paper that cannot be read ends the question there
+pub ruleset judged_laws = (passes-at, refused-at)
 
-module _ (order : Bool) (job plan : List ℕ) (j : JobRead) (ej : j ≡ read_job job) where
-  -- what is lent, where the answer is v and the plan beside the job is z
-  lent_is : (v : Judged) (z : Plan) → v ≡ judge_with order job plan → z ≡ plan_beside (read_job job).answer plan
-      → ◌≡◌ {A = Lent} (record { judged = v; job = j.job; plan = z }) (lent order job plan)
-  unfolding lent
-  lent_is v z e f = rw (e, f, ej)
+-- ---- two papers read in turn: the first that cannot be read ends the question, and where both are read the plan is judged
 
-  pub unread-job : (n q : ℕ) (v : Judged) (z : Plan) → j.answer ≡ Unread n q → v ≡ if_read j.answer (Refused 0 0) → z ≡ no_plan
-      → ◌≡◌ {A = Lent} (record { judged = v; job = j.job; plan = z }) (lent order job plan)
-  unfolding judge_with if_read plan_beside
-  unread-job n q v z e h f = lent_is v z ((rw e at h) ∙ sym (rw (← ej, e))) (f ∙ sym (rw (← ej, e)))
+module _ (order : Bool) (job plan : List ℕ) where
+  pub job-unread : (r : Refusal) → job_read_of (Err r) ≡ read_job job → (lent order job plan).judged ≡ Refused (number_of r.fault) (paper_of r.paper)
+  unfolding lent judge_with if_read
+  job-unread r e = rw (← e) refl
 
-  module _ (p : PlanRead) (ep : p ≡ read_plan plan) (rj : j.answer ≡ Read) where
-    beside : p.plan ≡ plan_beside (read_job job).answer plan
-    unfolding plan_beside
-    beside = rw (← ej, rj, ep)
+  module _ (j : Job) (ej : job_read_of (Ok j) ≡ read_job job) where
+    pub plan-unread : (r : Refusal) → plan_read_of (Err r) ≡ read_plan plan → (lent order job plan).judged ≡ Refused (number_of r.fault) (paper_of r.paper)
+    unfolding lent judge_with if_read
+    plan-unread r e = rw (← ej, ← e) refl
 
-    pub unread-plan : (n q : ℕ) (v : Judged) → p.answer ≡ Unread n q → v ≡ if_read p.answer (Refused 0 0)
-        → ◌≡◌ {A = Lent} (record { judged = v; job = j.job; plan = p.plan }) (lent order job plan)
-    unfolding judge_with if_read
-    unread-plan n q v e h = lent_is v p.plan ((rw e at h) ∙ sym (rw (← ej, ← ep, rj, e))) beside
+    module _ (p : Plan) (ep : plan_read_of (Ok p) ≡ read_plan plan) where
+      pub plan-refused : (r : Refusal) → judged_of (Err r) ≡ judged_with order j p → (lent order job plan).judged ≡ Refused (number_of r.fault) (paper_of r.paper)
+      unfolding lent judge_with if_read
+      plan-refused r e = rw (← ej, ← ep) (sym e)
 
-    pub both_read : p.answer ≡ Read → (v : Judged) → v ≡ judged_with order j.job p.plan
-        → ◌≡◌ {A = Lent} (record { judged = v; job = j.job; plan = p.plan }) (lent order job plan)
-    unfolding judge_with if_read
-    both_read e v h = lent_is v p.plan (h ∙ sym (rw (← ej, ← ep, rj, e))) beside
+      pub plan-lent : (cost : ℕ) → judged_of (Ok cost) ≡ judged_with order j p → lent order job plan ≡ record { judged = Passed cost; job = j; plan = p }
+      unfolding lent judge_with if_read plan_beside
+      plan-lent cost e =
+          let v : judge_with order job plan ≡ Passed cost = rw (← ej, ← ep) (sym e) in
+          let z : plan_beside (read_job job).answer plan ≡ p = rw (← ej) (sym (ap (λ (r : PlanRead). r.plan) ep)) in
+          let k : (read_job job).job ≡ j = sym (ap (λ (r : JobRead). r.job) ej) in
+          λ i. record { judged = v i; job = k i; plan = z i }
+
+pub ruleset lent_laws = (job-unread, plan-unread, plan-refused, plan-lent)
+
+-- of what is lent, the answer
+module _ (job plan : List ℕ) where
+  pub judge-passed : (cost : ℕ) (j : Job) (p : Plan) → lent true job plan ≡ record { judged = Passed cost; job = j; plan = p } → Passed cost ≡ judge job plan
+  unfolding judge lent
+  judge-passed cost j p e = sym (ap (λ (l : LentPapers). l.judged) e)
+
+  pub judge-refused : (r : Refusal) → (lent true job plan).judged ≡ Refused (number_of r.fault) (paper_of r.paper) → Refused (number_of r.fault) (paper_of r.paper) ≡ judge job plan
+  unfolding judge lent
+  judge-refused r e = sym e
+
+pub ruleset judge_laws = (judge-refused)
+
+-- ---- results that the definitions call alike are equal
+
+pub one_judged : (r r' : Result ℕ Refusal) → judged_of r ≡ judged_of r' → r ≡ r'
+one_judged (Ok n) (Ok m) e = let w : n ≡ m = cc in ap (λ (k : ℕ). Ok k) w
+one_judged (Err x) (Err y) e =
+    let f : number_of x.fault ≡ number_of y.fault = cc in
+    let p : paper_of x.paper ≡ paper_of y.paper = cc in
+    ap (λ (z : Refusal). Err z) (refusal-one x y f p)
+one_judged (Ok n) (Err y) e = cc
+one_judged (Err x) (Ok m) e = cc
+
+pub one_lent : (l : LentPapers) (r r' : Result Lent Refusal) → Lends l r → Lends l r' → r ≡ r'
+one_lent l (Ok x) (Ok y) e e' =
+    let w = sym e ∙ e' in
+    let a = ap (λ (p : LentPapers). p.judged) w in
+    let c : x.cost ≡ y.cost = cc in
+    let j = ap (λ (p : LentPapers). p.job) w in
+    let q = ap (λ (p : LentPapers). p.plan) w in
+    λ i. Ok (record { cost = c i; job = j i; plan = q i })
+one_lent l (Err x) (Err y) e e' =
+    let w = sym e ∙ e' in
+    let f : number_of x.fault ≡ number_of y.fault = cc in
+    let p : paper_of x.paper ≡ paper_of y.paper = cc in
+    ap (λ (z : Refusal). Err z) (refusal-one x y f p)
+one_lent l (Ok x) (Err y) e e' = let a = sym (ap (λ (p : LentPapers). p.judged) e) ∙ e' in cc
+one_lent l (Err x) (Ok y) e e' = let a = sym e ∙ ap (λ (p : LentPapers). p.judged) e' in cc

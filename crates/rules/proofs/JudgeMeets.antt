@@ -10,33 +10,30 @@ use borrow.Author.Tests.{eqb-true, ltb-true, eq-eqb, lt-ltb}
 use lib.Dec.{lit<}
 use Rattle.basics.specs.Numbers.{counts_differ, order_broken, precedence_broken, resource_broken, chain_broken}
 use Rattle.basics.specs.Tables.{cell}
-use Rattle.basics.proofs.CountLaws.{and_both, both-and, asked, where-asked, all_to-each, each-all_to, sum_to-most, only-small}
+use Rattle.basics.proofs.CountLaws.{and_both, both-and, asked, where-asked, all_to-each, each-all_to}
 use Rattle.basics.proofs.FaultLaws.{or_else-none, none-or_else, unless-none, none-unless, first-none, none_first}
 use Rattle.basics.proofs.TableLaws.{cell-cells}
 use Rattle.sheets.specs.Limits.{op_cells, cost_bits}
+use Rattle.sheets.specs.Answers.{Reading, Read, Unread}
 use Rattle.sheets.specs.JobSheet.{read_job}
 use Rattle.sheets.specs.PlanSheet.{read_plan}
 use Rattle.sheets.specs.declared.Job.{Job}
 use Rattle.sheets.specs.declared.Plan.{Plan}
-use Rattle.sheets.specs.declared.Reading.{Reading}
-use Rattle.sheets.specs.declared.Reading.TheVariants.{Read, Refused as Unread}
 use Rattle.sheets.proofs.JobRoundTrip.{job-sound, job-costs}
 use Rattle.sheets.proofs.RecordLaws.{JobSound}
 use Rattle.rules.specs.Model.{inst_count, types_of, time_of, delay_of, spacing_of, row_at, row_table, timing_in, timing_of}
-use Rattle.rules.specs.Selection.{selected, order_ok, cost_at, selection_cost}
-use Rattle.rules.specs.declared.Judged.{Judged}
-use Rattle.rules.specs.declared.Judged.TheVariants.{Passed, Refused}
-use Rattle.rules.specs.declared.Timing.{Timing}
+use Rattle.rules.specs.Selection.{selected, order_ok}
+use Rattle.rules.specs.declared.Spans.{Spans}
 use Rattle.rules.specs.Rules.{row_fault_at, rows_fault, joins, placed, link_ok, precedence_ok, resource_ok, chains_ok}
-use Rattle.rules.specs.Judge.{counts_fault, placing_fault, fault_with, judge_fault, plan_cost, pass_or, judged_with, judged, if_read, judge_with, judge}
+use Rattle.rules.specs.Judge.{Passed, counts_fault, placing_fault, fault_with, judge_fault, plan_cost, pass_or, judged_with, judged, if_read, judge_with, judge}
 use Rattle.rules.specs.Meets.{Link, Joined, run_total, RunsFit, start, inst, time, delay, Row, Resource, Meets, Passes, max_cost}
 use Rattle.rules.proofs.ChainRule.{chain-rule}
 use Rattle.rules.proofs.JudgeLaws.{counts-agree}
 use Rattle.rules.proofs.ModelLaws.{types-rise}
-use Rattle.rules.proofs.RuleLaws.{order-says, says-order, none_row, row-none, precedes-says, says-precedes, resource-says, says-resource}
+use Rattle.rules.proofs.RuleLaws.{cost-most, order-says, says-order, none_row, row-none, precedes-says, says-precedes, resource-says, says-resource}
 
 module _ (j : Job) (p : Plan) (sound : JobSound j) where
-  abbrev timing : Timing
+  abbrev timing : Spans op_cells
   timing = timing_of j p.insts
 
   -- ---- what an operation takes, as the tables have it
@@ -199,19 +196,11 @@ module _ (j : Job) (p : Plan) (sound : JobSound j) where
 
 -- ---- the judge on bytes
 
-abbrev cost_in : Judged → ℕ
-cost_in (Passed c) = c
-cost_in (Refused number paper) = 0
-
-abbrev is_pass : Judged → ℕ
-is_pass (Passed c) = 1
-is_pass (Refused number paper) = 0
-
 -- a pass of two records
 passed_none : (fault cost c : ℕ) → pass_or fault cost ≡ Passed c → (fault ≡ 0) × (c ≡ cost)
 unfolding pass_or
-passed_none zero cost c e = (refl, sym (ap cost_in e))
-passed_none (suc k) cost c e = absurd (let z : 0 ≡ 1 = ap is_pass e in omega arith)
+passed_none zero cost c e = (refl, cc)
+passed_none (suc k) cost c e = cc
 
 module _ (job plan : List ℕ) (c : ℕ) where
   -- a pass of two papers
@@ -219,8 +208,8 @@ module _ (job plan : List ℕ) (c : ℕ) where
       → (a ≡ Read) × (b ≡ Read) × (judged (read_job job).job (read_plan plan).plan ≡ Passed c)
   unfolding judge judge_with judged if_read
   papers-read Read Read ea eb e = (refl, refl, rw (ea, eb) at e)
-  papers-read Read (Unread number paper) ea eb e = absurd (let z : 0 ≡ 1 = ap is_pass (rw (ea, eb) at e) in omega arith)
-  papers-read (Unread number paper) b ea eb e = absurd (let z : 0 ≡ 1 = ap is_pass (rw ea at e) in omega arith)
+  papers-read Read (Unread number paper) ea eb e = let z = rw (ea, eb) at e in cc
+  papers-read (Unread number paper) b ea eb e = let z = rw ea at e in cc
 
   pass_meets : judge job plan ≡ Passed c → Passes job plan c
   unfolding judged judged_with judge_fault
@@ -249,11 +238,8 @@ module _ (job plan : List ℕ) (c : ℕ) where
 
   -- no plan costs more than every instance at the greatest cost
   pub judge-cost : judge job plan ≡ Passed c → c ≤ max_cost
-  unfolding plan_cost selection_cost cost_at
+  unfolding plan_cost
   judge-cost e =
       let m = pass_meets e in
       let j = m.as_job in
-      let f : ℕ → ℕ = cost_at j.costs (types_of j) (selected m.as_plan.selection) in
-      let most : (i : ℕ) → i < inst_count j → f i ≤ 2 ^ cost_bits - 1 =
-      λ i l. omega (arith, only-small (selected m.as_plan.selection i) (cell j.costs (cell (types_of j) i)), job-costs job j m.job_read (cell (types_of j) i)) in
-      omega (arith, m.cost, sum_to-most f (2 ^ cost_bits - 1) (inst_count j) most, (job-sound job j m.job_read).insts)
+      omega (arith, m.cost, cost-most j.costs (types_of j) (selected m.as_plan.selection) (2 ^ cost_bits - 1) (inst_count j) (λ y. omega (arith, job-costs job j m.job_read y)), (job-sound job j m.job_read).insts)

@@ -3,29 +3,55 @@ use Prim.Native.Nat.{ℕ, zero, suc, ◌+◌, ◌-◌, ◌*◌, ◌/◌, ◌%◌
 use mathlib.Core.Path.{◌≡◌, refl, sym, ap, ◌∙◌}
 use mathlib.Core.List.{List}
 use native.Mathlib.Decide.{dec_lt}
-use native.Mathlib.Nat.{div-le_of_le-mul, div-eq_of_lt, div-zero, le-div_iff_mul-le}
+use native.Mathlib.Nat.{div-le_of_le-mul, div-eq_of_lt, div-eq_of_lt-le, div-zero, le-div_iff_mul-le}
 use native.Mathlib.Omega.{arith}
 use borrow.Author.Tests.{le-leb, lt-leb}
 use lib.Dec.{leb}
 use lib.ListN.{length, get_or-eq_default}
+use Rattle.std.specs.Int.{div_ceil}
+use Rattle.std.proofs.lemmas.Grind.{div_ceil_times}
 use Rattle.basics.specs.Counting.{sum_to, only}
 use Rattle.basics.specs.Tables.{cell, cells}
-use Rattle.basics.proofs.CountLaws.{sum_to-below, sum_to-rises}
-use Rattle.basics.proofs.TableLaws.{length-cells, cell-cells, cell-unused, cells-cong, blank-each}
+use Rattle.basics.proofs.CountLaws.{sum_to-more, sum_to-below, sum_to-rises}
+use Rattle.basics.proofs.TableLaws.{cell-cells, cell-unused, cells-cong, blank-each}
 use Rattle.sheets.specs.Limits.{kind_count, inst_cells, op_cells, pair_cells}
 use Rattle.sheets.specs.declared.Job.{Job}
 use Rattle.sheets.proofs.RecordLaws.{JobSound}
 use Rattle.rules.specs.Model.{behind, type_at, types_in, types_of, type_of, span_of, time_of, interval_of, spacing_of, in_steps, steps_at, row_at, row_table, timing_in, unit_cells, unit_at, unit_table, tables_of}
-use Rattle.rules.specs.declared.Tables.{Tables}
-use Rattle.rules.specs.declared.Timing.{Timing}
+use Rattle.rules.specs.declared.Spans.{Spans}
 
-pub behind-is : (copies : List ℕ) (i y : ℕ) → behind copies i y ≡ only (leb (sum_to (cell copies) y + cell copies y) i) 1
+-- ---- the type of an instance, one type after another
+
+pub none-counted : (copies : List ℕ) → sum_to (cell copies) 0 ≡ 0
+unfolding sum_to
+none-counted copies = refl
+
+pub more-counted : (copies : List ℕ) (y : ℕ) → sum_to (cell copies) (y + 1) ≡ sum_to (cell copies) y + cell copies y
+more-counted copies y = sum_to-more (cell copies) y
+
+pub none-behind : (copies : List ℕ) (i : ℕ) → type_at copies 0 i ≡ 0
+unfolding type_at sum_to
+none-behind copies i = refl
+
+behind-is : (copies : List ℕ) (i y : ℕ) → behind copies i y ≡ only (leb (sum_to (cell copies) y + cell copies y) i) 1
 unfolding behind sum_to
 behind-is copies i y = refl
 
-pub types-counted : (types copies : List ℕ) (m : ℕ) → types ≡ types_in copies m → inst_cells ≡ length types
-unfolding types_in
-types-counted types copies m e = sym (ap length e ∙ length-cells (type_at copies m) inst_cells inst_cells)
+type-more : (copies : List ℕ) (i y : ℕ) → type_at copies (y + 1) i ≡ type_at copies y i + behind copies i y
+unfolding type_at
+type-more copies i y = sum_to-more (behind copies i) y
+
+pub one-behind : (copies : List ℕ) (i y : ℕ) → sum_to (cell copies) y + cell copies y ≤ i → type_at copies (y + 1) i ≡ type_at copies y i + 1
+unfolding only
+one-behind copies i y h =
+    type-more copies i y ∙ (rw (behind-is copies i y, le-leb (sum_to (cell copies) y + cell copies y) i h) refl)
+
+pub not-behind : (copies : List ℕ) (i y : ℕ) → i < sum_to (cell copies) y + cell copies y → type_at copies (y + 1) i ≡ type_at copies y i
+unfolding only
+not-behind copies i y h =
+    type-more copies i y ∙ (rw (behind-is copies i y, lt-leb (sum_to (cell copies) y + cell copies y) i h) (omega arith))
+
+pub ruleset type_laws = (none-counted, more-counted, none-behind, one-behind, not-behind)
 
 -- ---- instances are numbered type by type
 
@@ -41,7 +67,7 @@ type-rises : (copies : List ℕ) (m i k : ℕ) → i ≤ k → type_at copies m 
 unfolding type_at
 type-rises copies m i k h = sum_to-below (behind copies i) (behind copies k) m (λ y l. behind-rises copies i k y h)
 
-type-cell : (copies : List ℕ) (m i : ℕ) → i < inst_cells → cell (types_in copies m) i ≡ type_at copies m i
+pub type-cell : (copies : List ℕ) (m i : ℕ) → i < inst_cells → cell (types_in copies m) i ≡ type_at copies m i
 unfolding types_in
 type-cell copies m i l = cell-cells (type_at copies m) inst_cells inst_cells i l (omega arith)
 
@@ -73,6 +99,11 @@ module _ (copies : List ℕ) (y c : ℕ) (few : c < cell copies y) where
 
 -- ---- a quotient rounded up
 
+-- an operation that takes time takes a step
+pub some-step : (clock span : ℕ) → 1 ≤ clock → 0 < span → 1 ≤ in_steps clock span
+unfolding in_steps
+some-step clock span c s = (le-div_iff_mul-le {k = clock} {x = 1} {y = span + (clock - 1)} c).1 (omega arith)
+
 -- document 01's own example
 pub rounded-163 : in_steps 55 163 ≡ 3
 unfolding in_steps
@@ -85,6 +116,23 @@ rounded-small zero (suc b) =
     let d : b / suc b ≡ 0 = div-eq_of_lt (omega arith) in
     rw e (omega arith)
 rounded-small (suc a) (suc b) = div-le_of_le-mul (suc b) (omega arith)
+
+-- as the library's `div_ceil` rounds
+pub rounded-up : (clock span : ℕ) → 0 < clock → div_ceil span clock ≡ in_steps clock span
+unfolding in_steps
+rounded-up clock span l =
+    let t = div_ceil_times span clock l in sym (div-eq_of_lt-le clock (omega (arith, t.1)) (omega (arith, t.0, l)))
+
+-- where the clock is 0
+pub rounded-none : (clock span : ℕ) → clock ≡ 0 → 0 ≡ in_steps clock span
+unfolding in_steps
+rounded-none clock span e = rw (e, div-zero)
+
+pub in_steps-small : (clock span : ℕ) → in_steps clock span ≤ span
+unfolding in_steps
+in_steps-small clock span = rounded-small span clock
+
+pub ruleset steps_laws = (rounded-up, rounded-none, in_steps-small)
 
 rounded-some : (a b : ℕ) → 1 ≤ a → 1 ≤ b → 1 ≤ (a + (b - 1)) / b
 rounded-some a b l m = (le-div_iff_mul-le m).1 (omega arith)
@@ -132,7 +180,7 @@ steps-cell spans clock n e c =
 pub timing-is : (types : List ℕ) (clock : ℕ) (kinds times intervals insts : List ℕ) (row_times row_intervals delays spacings : List ℕ)
     → row_times ≡ row_table (span_of types kinds times) insts → row_intervals ≡ row_table (span_of types kinds intervals) insts
     → delays ≡ cells (steps_at clock row_times) op_cells op_cells → spacings ≡ cells (steps_at clock row_intervals) op_cells op_cells
-    → ◌≡◌ {A = Timing} (record { times = row_times; delays = delays; spacings = spacings }) (timing_in types clock kinds times intervals insts)
+    → ◌≡◌ {A = Spans op_cells} (record { times = row_times; delays = delays; spacings = spacings }) (timing_in types clock kinds times intervals insts)
 unfolding timing_in
 timing-is types clock kinds times intervals insts row_times row_intervals delays spacings a b d s =
     let d' = d ∙ ap (λ (t : List ℕ). cells (steps_at clock t) op_cells op_cells) a ∙ steps-table (row_at (span_of types kinds times) insts) clock op_cells _ (λ c. refl) in
@@ -150,7 +198,7 @@ pub tables-are : (j : Job) (types delays spacings times' delays' spacings' : Lis
     → types ≡ types_of j
     → delays ≡ cells (steps_at j.clock j.times) pair_cells pair_cells → spacings ≡ cells (steps_at j.clock j.intervals) pair_cells pair_cells
     → times' ≡ unit_table (span_of types j.kinds j.times) → delays' ≡ unit_table (span_of types j.kinds delays) → spacings' ≡ unit_table (span_of types j.kinds spacings)
-    → ◌≡◌ {A = Tables} (record { times = times'; delays = delays'; spacings = spacings' }) (tables_of j)
+    → ◌≡◌ {A = Spans unit_cells} (record { times = times'; delays = delays'; spacings = spacings' }) (tables_of j)
 unfolding tables_of
 tables-are j types delays spacings times' delays' spacings' lt li t d s et ed es =
     let t' = rw t at et in

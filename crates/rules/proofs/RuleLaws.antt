@@ -1,5 +1,5 @@
 -- Each test of a rule holds exactly where the rule does as a person says it.
-use Prim.Native.Nat.{ℕ, zero, suc, ◌+◌, ◌-◌, ◌≤◌, ◌<◌}
+use Prim.Native.Nat.{ℕ, zero, suc, ◌+◌, ◌-◌, ◌*◌, ◌≤◌, ◌<◌}
 use mathlib.Core.Path.{◌≡◌, refl, sym, ◌∙◌}
 use mathlib.Core.Bool.{Bool, true, false, not, ◌||◌, ◌&&◌}
 use mathlib.Core.List.{List}
@@ -10,9 +10,9 @@ use borrow.Author.Tests.{leb-true, ltb-true, eqb-true, le-leb, lt-ltb, eq-eqb, n
 use lib.Dec.{ltb, leb, eqb, lit<}
 use Rattle.basics.specs.Numbers.{row_instance, row_kind, row_unselected, row_step}
 use Rattle.basics.specs.Tables.{cell}
-use Rattle.basics.proofs.CountLaws.{and_both, both-and, either, either_left, either-right, all_to-each, each-all_to}
+use Rattle.basics.proofs.CountLaws.{and_both, both-and, either, either_left, either-right, all_to-each, each-all_to, sum_to-most, only-small}
 use Rattle.basics.proofs.FaultLaws.{or_else-none, none-or_else, unless-none, none-unless}
-use Rattle.rules.specs.Selection.{selected, order_at, order_ok}
+use Rattle.rules.specs.Selection.{selected, order_at, order_ok, cost_at, selection_cost}
 use Rattle.rules.specs.Rules.{finish, row_fault, placed, precedes, spaced, apart, share_ok, beside_ok, resource_ok}
 
 -- ---- tests
@@ -27,18 +27,19 @@ or_comm false true = refl
 or_comm false false = refl
 
 not-both : (a : Bool) → a ≡ true → not a ≡ true → ⊥
-not-both true e h = let z : ◌≡◌ {A = ℕ} 0 1 = cc in omega arith
-not-both false e h = let z : ◌≡◌ {A = ℕ} 0 1 = cc in omega arith
+not-both true e h = cc
+not-both false e h = cc
 
 -- ---- selection order, of types that rise
 
--- an instance that has one before it
-pub order-behind : (types selection : List ℕ) (i : ℕ) (r : Bool) → (i ≡ 0 → ⊥)
-    → r ≡ (not (eqb (cell types (i - 1)) (cell types i)) || not (selected selection (i - 1)) || selected selection i)
-    → r ≡ order_at types selection i
+-- the first instance has none before it
+pub order-at : (types selection : List ℕ) (i : ℕ)
+    → order_at types selection i ≡ (eqb i 0 || not (eqb (cell types (i - 1)) (cell types i)) || not (selected selection (i - 1)) || selected selection i)
 unfolding order_at
-order-behind types selection zero r h e = absurd (h refl)
-order-behind types selection (suc i) r h e = let q : suc i - 1 ≡ i = omega arith in rw q at e
+order-at types selection zero = refl
+order-at types selection (suc i) = let q : suc i - 1 ≡ i = omega arith in rw (q, ne_eqb (suc i) 0 (omega arith))
+
+pub ruleset order_laws = (order-at)
 
 module _ (types selection : List ℕ) (k : ℕ) where
   abbrev Ordered : Type 0
@@ -81,6 +82,14 @@ module _ (types selection : List ℕ) (k : ℕ) where
   pub says-order : Ordered → order_ok types selection k ≡ true
   unfolding order_ok
   says-order h = each-all_to (order_at types selection) k (says-next h)
+
+-- ---- cost
+
+-- k instances cost at most k times the most that one does
+pub cost-most : (costs types : List ℕ) (chosen : ℕ → Bool) (most k : ℕ) → ((y : ℕ) → cell costs y ≤ most) → selection_cost costs types chosen k ≤ most * k
+unfolding selection_cost cost_at
+cost-most costs types chosen most k h =
+    sum_to-most (cost_at costs types chosen) most k (λ i l. omega (arith, only-small (chosen i) (cell costs (cell types i)), h (cell types i)))
 
 -- ---- a row
 
@@ -175,7 +184,7 @@ module _ (starts insts spacings : List ℕ) (b a : ℕ) where
   abbrev rows_apart : Bool
   rows_apart = apart (cell starts a) (cell spacings a) (cell starts b) (cell spacings b)
 
-  pub share_other : (cell insts a ≡ cell insts b → ⊥) → true ≡ share_ok starts insts spacings b a
+  share_other : (cell insts a ≡ cell insts b → ⊥) → true ≡ share_ok starts insts spacings b a
   unfolding share_ok
   share_other h = rw (ne_eqb _ _ h)
 

@@ -1,22 +1,22 @@
 -- What the judge answers for any bytes: `judge`; `judged_says` gives each case in numbers. `judge_with` is told whether selection order
--- is asked, and `lent` has the records beside its answer: what is done with a plan that was judged starts from there.
-use Rattle.std.specs.Prelude.{ℕ, zero, suc, Bool, true, not, ◌||◌, ◌&&◌, List, eqb}
+-- is asked, and `lent` has the records beside its answer: what is done with a plan that was judged starts from there. `judged_of` and
+-- `Lends` say which case the code's result is.
+use Rattle.std.specs.Prelude.{ℕ, zero, suc, ◌≡◌, Bool, true, not, ◌||◌, ◌&&◌, List, eqb, Result, Ok, Err}
 use Rattle.basics.specs.Answers.{refused_says}
-use Rattle.basics.specs.Faults.{◌or_else◌, fault_unless}
+use Rattle.basics.specs.Faults.{◌or_else◌, fault_unless, number_of, paper_of}
 use Rattle.basics.specs.Numbers.{counts_differ, order_broken, precedence_broken, resource_broken, chain_broken, paper_plan, outcome_passed}
 use Rattle.basics.specs.declared.Answer.{Answer}
+use Rattle.basics.specs.declared.refusals.Refusal.{Refusal}
+use Rattle.sheets.specs.Answers.{Reading, Read, Unread}
 use Rattle.sheets.specs.JobSheet.{read_job}
 use Rattle.sheets.specs.PlanSheet.{no_plan, read_plan}
 use Rattle.sheets.specs.declared.Job.{Job}
 use Rattle.sheets.specs.declared.Plan.{Plan}
-use Rattle.sheets.specs.declared.Reading.{Reading}
-use Rattle.sheets.specs.declared.Reading.TheVariants.{Read, Refused as Unread}
+use Rattle.sheets.specs.Limits.{op_cells}
 use Rattle.rules.specs.Model.{inst_count, types_of, timing_of}
 use Rattle.rules.specs.Selection.{selected, order_ok, selection_cost}
 use Rattle.rules.specs.Rules.{rows_fault, precedence_ok, resource_ok, chains_ok}
-use Rattle.rules.specs.declared.Timing.{Timing}
-use Rattle.rules.specs.declared.Judged.{Judged}
-use Rattle.rules.specs.declared.Judged.TheVariants.{Passed, Refused}
+use Rattle.rules.specs.declared.Spans.{Spans}
 use Rattle.rules.specs.declared.Lent.{Lent}
 
 -- ---- the first rule that a plan breaks, 0 where it breaks none
@@ -26,7 +26,7 @@ unfoldable pub counts_fault : ℕ → ℕ → ℕ → ℕ → ℕ
 counts_fault ops insts n k = fault_unless (eqb ops n && eqb insts k) counts_differ
 
 -- of precedence, resource and chain, among the operations placed
-unfoldable pub placing_fault : ℕ → ℕ → ℕ → ℕ → List ℕ → List ℕ → List ℕ → List ℕ → Timing → ℕ
+unfoldable pub placing_fault : ℕ → ℕ → ℕ → ℕ → List ℕ → List ℕ → List ℕ → List ℕ → Spans op_cells → ℕ
 placing_fault n e wire clock from to starts insts timing =
     fault_unless (precedence_ok from to e starts timing.delays) precedence_broken or_else
     fault_unless (resource_ok n starts insts timing.spacings) resource_broken or_else
@@ -49,6 +49,11 @@ plan_cost j p = selection_cost j.costs (types_of j) (selected p.selection) (inst
 
 -- ---- the judge
 
+-- passed at a cost, or refused by a number, with the paper at fault
+pub data Judged : Type 0 where
+  Passed : (cost : ℕ) → Judged
+  Refused : (number paper : ℕ) → Judged
+
 -- passed at the cost, or refused by the fault
 unfoldable pub pass_or : ℕ → ℕ → Judged
 pass_or zero cost = Passed cost
@@ -60,7 +65,7 @@ judged_with order j p = pass_or (fault_with order j p) (plan_cost j p)
 unfoldable pub judged : Job → Plan → Judged
 judged j p = judged_with true j p
 
--- a paper that cannot be read ends the question there (`Unread` is the readers' `Refused`)
+-- a paper that cannot be read ends the question there
 unfoldable pub if_read : Reading → Judged → Judged
 if_read Read next = next
 if_read (Unread number paper) next = Refused number paper
@@ -78,8 +83,24 @@ plan_beside Read plan = (read_plan plan).plan
 plan_beside (Unread number paper) plan = no_plan
 
 -- the answer, with the records beside it
-unfoldable pub lent : Bool → List ℕ → List ℕ → Lent
+pub record LentPapers : Type 0 where
+  pub judged : Judged
+  pub job : Job
+  pub plan : Plan
+
+unfoldable pub lent : Bool → List ℕ → List ℕ → LentPapers
 lent order job plan = record { judged = judge_with order job plan; job = (read_job job).job; plan = plan_beside (read_job job).answer plan }
+
+-- ---- the code's results
+
+abbrev pub judged_of : Result ℕ Refusal → Judged
+judged_of (Ok cost) = Passed cost
+judged_of (Err r) = Refused (number_of r.fault) (paper_of r.paper)
+
+-- of papers lent the code has the records where the plan passes; else it has the refusal alone
+abbrev pub Lends : LentPapers → Result Lent Refusal → Type 0
+Lends l (Ok x) = l ≡ record { judged = Passed x.cost; job = x.job; plan = x.plan }
+Lends l (Err r) = l.judged ≡ Refused (number_of r.fault) (paper_of r.paper)
 
 -- ---- each case in its numbers
 

@@ -1,11 +1,11 @@
 -- The rules of a plan as a person reads them: `Meets job plan` has a field for each. `Passes` is what a pass of the judge means.
 use Rattle.std.specs.Prelude.{ℕ, ◌+◌, ◌-◌, ◌<◌, ◌≤◌, ◌≡◌, ◌⊎◌, List, [], ◌∷◌, length}
 use Rattle.basics.specs.Tables.{cell}
+use Rattle.sheets.specs.Answers.{Read}
 use Rattle.sheets.specs.JobSheet.{read_job}
 use Rattle.sheets.specs.PlanSheet.{read_plan}
 use Rattle.sheets.specs.declared.Job.{Job}
 use Rattle.sheets.specs.declared.Plan.{Plan}
-use Rattle.sheets.specs.declared.Reading.TheVariants.{Read}
 use Rattle.rules.specs.Model.{inst_count, type_of, time_of, delay_of, spacing_of}
 use Rattle.rules.specs.Judge.{plan_cost}
 

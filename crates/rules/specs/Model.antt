@@ -5,8 +5,7 @@ use Rattle.basics.specs.Counting.{sum_to, only}
 use Rattle.basics.specs.Tables.{cell, cells}
 use Rattle.sheets.specs.Limits.{kind_count, inst_cells, op_cells}
 use Rattle.sheets.specs.declared.Job.{Job}
-use Rattle.rules.specs.declared.Tables.{Tables}
-use Rattle.rules.specs.declared.Timing.{Timing}
+use Rattle.rules.specs.declared.Spans.{Spans}
 
 -- ---- instances
 
@@ -72,7 +71,7 @@ abbrev pub row_table : (ℕ → ℕ → ℕ) → List ℕ → List ℕ
 row_table of insts = cells (row_at of insts) op_cells op_cells
 
 -- times, delays and spacings
-unfoldable pub timing_in : List ℕ → ℕ → List ℕ → List ℕ → List ℕ → List ℕ → Timing
+unfoldable pub timing_in : List ℕ → ℕ → List ℕ → List ℕ → List ℕ → List ℕ → Spans op_cells
 timing_in types clock kinds times intervals insts =
     record {
       times = row_table (span_of types kinds times) insts;
@@ -80,7 +79,7 @@ timing_in types clock kinds times intervals insts =
       spacings = row_table (steps_of clock (span_of types kinds intervals)) insts;
     }
 
-abbrev pub timing_of : Job → List ℕ → Timing
+abbrev pub timing_of : Job → List ℕ → Spans op_cells
 timing_of j insts = timing_in (types_of j) j.clock j.kinds j.times j.intervals insts
 
 -- ---- the same for every operation on every instance: operation o on instance i has cell inst_cells * o + i (`unit-cell`)
@@ -95,5 +94,5 @@ unit_at of c = of (c / inst_cells) (c % inst_cells)
 abbrev pub unit_table : (ℕ → ℕ → ℕ) → List ℕ
 unit_table of = cells (unit_at of) unit_cells unit_cells
 
-unfoldable pub tables_of : Job → Tables
+unfoldable pub tables_of : Job → Spans unit_cells
 tables_of j = record { times = unit_table (time_of j); delays = unit_table (delay_of j); spacings = unit_table (spacing_of j) }

@@ -1,4 +1,5 @@
-// The rules of a plan, and the judge.
+// The rules of a plan, and the judge. A rule takes its tables as slices: the judge lends those of a job and a plan, placing those
+// of a board and its rows.
 #![tactic(auto)]
 
 pub mod model; // what a job says of its instances: K, types, times, delays, spacings
@@ -9,33 +10,25 @@ pub mod resource; // the rule on operations that share an instance
 pub mod chains; // the rule on runs within a step
 pub mod judging; // the judge
 
-// What each operation of a plan takes on its instance.
+// Tables side by side and no table of spans, since each rule goes by one or two of them.
+/// What so many operations take, each on an instance.
 #[derive(Clone, Copy)]
-pub struct Timing {
-    pub times: [u16; sheets::limits::OP_CELLS], // ns; 0: cannot be done
-    pub delays: [u16; sheets::limits::OP_CELLS], // steps
-    pub spacings: [u16; sheets::limits::OP_CELLS], // steps
+pub struct Spans<const N: usize> {
+    pub times: [u16; N], // ns; 0: cannot be done
+    pub delays: [u16; N], // steps
+    pub spacings: [u16; N], // steps
 }
 
-// What each operation takes on each instance: operation o on instance i has cell INST_CELLS * o + i.
-#[derive(Clone, Copy)]
-pub struct Tables {
-    pub times: [u16; model::UNIT_CELLS], // as above
-    pub delays: [u16; model::UNIT_CELLS],
-    pub spacings: [u16; model::UNIT_CELLS],
-}
+/// Of each operation of a plan, on its instance.
+pub type Timing = Spans<{ sheets::limits::OP_CELLS }>;
 
-// The judge's answer.
-#[derive(Clone, Copy)]
-pub enum Judged {
-    Passed { cost: u32 },
-    Refused { number: u32, paper: u32 },
-}
+/// Of each operation on each instance: operation o on instance i has cell INST_CELLS * o + i.
+pub type Tables = Spans<{ model::UNIT_CELLS }>;
 
-// The judge's answer, beside the job and the plan, each zeros where it was not read.
+/// A job and a plan that were read and judged, at the plan's cost.
 #[derive(Clone, Copy)]
 pub struct Lent {
-    pub judged: Judged,
+    pub cost: u32,
     pub job: sheets::Job,
     pub plan: sheets::Plan,
 }

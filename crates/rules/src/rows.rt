@@ -1,20 +1,25 @@
 // The rule on rows.
 ghost use Rattle.std.specs.Prelude.{◌≡◌};
+ghost use Rattle.basics.specs.Faults.{fault_in};
 ghost use Rattle.rules.specs.Rules.{finish as finish_of, row_fault, rows_fault};
 
+use crate::Timing;
 use crate::selection::selected;
-use basics::{cell, fault_unless, or_else};
+use basics::{Fault, cell, unless};
+use sheets::{Job, Plan};
 
-// The step in which an operation ends.
+/// The step in which an operation ends.
+#[tactic(auto, unfolding(crate::specs::Rules::finish))]
 pub fn finish(start: u16, delay: u16) -> u32
     ensures { result ≡ finish_of start delay }
 {
-    let next = start as u32 + delay as u32;
-    if next == 0 { 0 } else { next - 1 }
+    (start as u32 + delay as u32).saturating_sub(1)
 }
 
-// A row among k instances with a deadline t: `time` and `delay` are the operation's on its instance, `chosen` says whether
-// that is selected.
+// Seven numbers of one row, which no other function takes together.
+/// A row among k instances with a deadline t: `time` and `delay` are the operation's on its instance, `chosen` says whether
+/// that is selected.
+#[tactic(auto, using(basics::proofs::FaultLaws::fault_laws), unfolding(crate::specs::Rules::row_fault))]
 pub fn row_fault(
     k: usize,
     t: u16,
@@ -23,50 +28,37 @@ pub fn row_fault(
     chosen: bool,
     start: u16,
     delay: u16,
-) -> u32
-    ensures { result ≡ row_fault k t inst time chosen start delay }
+) -> Result<(), Fault>
+    ensures { fault_in result ≡ row_fault k t inst time chosen start delay }
 {
-    let instance = fault_unless((inst as usize) < k, basics::ROW_INSTANCE);
-    let kind = fault_unless(0 < time, basics::ROW_KIND);
-    let unselected = fault_unless(chosen, basics::ROW_UNSELECTED);
-    let step = fault_unless(
-        (1 <= start) & (finish(start, delay) <= t as u32),
-        basics::ROW_STEP,
-    );
-    or_else(instance, or_else(kind, or_else(unselected, step)))
+    unless((inst as usize) < k, Fault::RowInstance)?;
+    unless(0 < time, Fault::RowKind)?;
+    unless(chosen, Fault::RowUnselected)?;
+    unless(
+        1 <= start && finish(start, delay) <= t as u32,
+        Fault::RowStep,
+    )
 }
 
-// The first fault of n rows.
-pub fn rows_fault<'a>(
-    n: u16,
-    k: usize,
-    t: u16,
-    starts: &'a [u16],
-    insts: &'a [u16],
-    times: &'a [u16],
-    delays: &'a [u16],
-    selection: &'a [u16],
-) -> u32
-    ensures { result ≡ rows_fault n k t starts.now insts.now times.now delays.now selection.now }
+/// The first fault of a job's rows, where it has k instances.
+#[tactic(auto, using(basics::proofs::FaultLaws::first_laws), unfolding(crate::specs::Rules::rows_fault, crate::specs::Rules::row_fault_at))]
+pub fn rows_fault(job: &Job, k: usize, plan: &Plan, timing: &Timing) -> Result<(), Fault>
+    ensures { let j = job.now in
+        let p = plan.now in
+        fault_in result ≡ rows_fault j.n k j.t p.starts p.insts timing.now.times timing.now.delays p.selection }
 {
-    let rows = n as usize;
-    let mut o: usize = 0;
-    while o < rows {
-        let inst = cell(insts, o);
-        let chosen = selected(selection, inst as usize);
-        let fault = row_fault(
+    for o in 0..job.n as usize {
+        let inst = cell(&plan.insts, o);
+        let chosen = selected(&plan.selection, inst as usize);
+        row_fault(
             k,
-            t,
+            job.t,
             inst,
-            cell(times, o),
+            cell(&timing.times, o),
             chosen,
-            cell(starts, o),
-            cell(delays, o),
-        );
-        if fault != 0 {
-            return fault;
-        }
-        o += 1;
+            cell(&plan.starts, o),
+            cell(&timing.delays, o),
+        )?;
     }
-    0
+    Ok(())
 }

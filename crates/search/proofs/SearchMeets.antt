@@ -19,7 +19,7 @@ use Rattle.sheets.specs.JobSheet.{read_job}
 use Rattle.sheets.specs.PlanSheet.{PlanShape, plan_counts_fault, plan_fits, plan_record_fault}
 use Rattle.sheets.specs.declared.Job.{Job}
 use Rattle.sheets.specs.declared.Plan.{Plan}
-use Rattle.sheets.specs.declared.Reading.TheVariants.{Read}
+use Rattle.sheets.specs.Answers.{Read}
 use Rattle.sheets.proofs.JobRoundTrip.{job-sound}
 use Rattle.rules.specs.Meets.{Meets}
 use Rattle.placing.specs.Board.{board_of}

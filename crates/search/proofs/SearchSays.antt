@@ -1,6 +1,6 @@
 -- What each answer of the search on bytes means: `spent-exactly`, `none-exactly`, `found-exactly` and `refused-exactly`. Only found
--- changes the output (`untouched`). There is one plan to be found (`one-plan`).
-use Prim.Native.Nat.{ℕ, zero, suc, ◌+◌, ◌/◌, ◌≤◌, ◌<◌}
+-- changes the output (`untouched`). There is one plan to be found (`one-plan`), and one answer of the code for each (`one_searched`).
+use Prim.Native.Nat.{ℕ, ◌+◌, ◌/◌, ◌≤◌, ◌<◌}
 use mathlib.Core.Path.{◌≡◌, refl, sym, ap, subst, ◌∙◌}
 use mathlib.Core.Bool.{Bool, true, false}
 use mathlib.Core.List.{List, ◌++◌}
@@ -10,29 +10,30 @@ use native.Mathlib.Omega.{arith}
 use borrow.Author.Tests.{le-leb, lt-leb}
 use lib.ListN.{length, drop}
 use lib.Seq.{ext_get_or}
-use Rattle.basics.specs.Numbers.{output_short, paper_plan, paper_request}
+use Rattle.basics.specs.Numbers.{output_short, paper_request}
 use Rattle.basics.specs.Tables.{cell, blank}
-use Rattle.basics.proofs.FaultLaws.{or_else-none}
 use Rattle.basics.proofs.TableLaws.{blank-each}
 use Rattle.sheets.specs.Answers.{if_room, written, output}
 use Rattle.sheets.specs.JobSheet.{read_job}
-use Rattle.sheets.specs.PlanSheet.{PlanShape, plan_end, plan_in, plan_body_fault, plan_fault, plan_answer, read_plan, plan_record_fault, plan_sheet, write_plan, plan_out}
+use Rattle.sheets.specs.PlanSheet.{PlanShape, plan_end, plan_record_fault, plan_sheet, write_plan, plan_out}
 use Rattle.sheets.specs.declared.Job.{Job}
 use Rattle.sheets.specs.declared.Plan.{Plan}
-use Rattle.sheets.specs.declared.PlanRead.{PlanRead}
-use Rattle.sheets.specs.declared.Reading.{Reading}
-use Rattle.sheets.specs.declared.Reading.TheVariants.{Read, Refused as Unread}
-use Rattle.sheets.proofs.GroupLaws.{none-fill}
+use Rattle.sheets.specs.Answers.{Reading, Read, Unread}
 use Rattle.sheets.proofs.PlanFieldLaws.{none-plan}
-use Rattle.sheets.proofs.PlanRoundTrip.{plan-read-written}
+use Rattle.sheets.proofs.PlanRoundTrip.{sheet-length}
 use Rattle.rules.specs.Model.{inst_count}
 use Rattle.rules.specs.Meets.{Meets, start, inst, Selected}
 use Rattle.placing.specs.Board.{board_of}
-use Rattle.search.specs.Search.{walked, wrote, answered, search_job, out_if, search_job_out, if_read, search, out_if_read, search_out}
+use Rattle.search.specs.Search.{walked, wrote, answered, searched_of, search_job, out_if, search_job_out, if_read, search, out_if_read, search_out}
 use Rattle.placing.specs.Plans.{plan_from}
 use Rattle.search.specs.Cheapest.{SameRow, SameRows, Before, FirstCheapest, Spends, NoPlan, Finds, Refusal}
-use Rattle.search.specs.declared.Searched.{Searched}
-use Rattle.search.specs.declared.Searched.TheVariants.{Found, Nothing, Spent, Refused}
+use Rattle.std.specs.Prelude.{Result, Ok, Err}
+use Rattle.basics.specs.Faults.{number_of, paper_of}
+use Rattle.basics.specs.declared.refusals.Refusal.{Refusal as Reason}
+use Rattle.basics.proofs.AnswerLaws.{refusal-one}
+use Rattle.search.specs.declared.Finding.{Finding}
+use Rattle.search.specs.declared.Finding.TheVariants.{Found as IsFound, Nothing as IsNothing, Spent as IsSpent}
+use Rattle.search.specs.Search.{Searched, Found, Nothing, Spent, Refused}
 use Rattle.search.proofs.SearchMeets.{search-none, search-found, found-shape, found-sound}
 
 -- ---- one plan to be found
@@ -111,24 +112,6 @@ one-plan j p q c e a b x y u v =
     (same.rows o (omega (arith, a.meets.operations))).1) in
     λ i. record { n = n i; k = k i; selection = selection i; starts = starts i; insts = insts i }
 
--- ---- the bytes of a plan's sheet
-
-sheet-size : (p : Plan) → PlanShape p → plan_record_fault p ≡ 0 → length (plan_sheet p) ≡ (plan_end p.n p.k + 7) / 8
-unfolding read_plan plan_answer plan_fault plan_body_fault
-sheet-size p t z = go (plan_fault (plan_sheet p)) refl (plan-read-written p t z)
-  where
-    go : (k : ℕ) → plan_fault (plan_sheet p) ≡ k → plan_answer (plan_fault (plan_sheet p)) (plan_in (plan_sheet p)) ≡ record { answer = Read; plan = p }
-        → length (plan_sheet p) ≡ (plan_end p.n p.k + 7) / 8
-    go zero q e =
-        let is : plan_in (plan_sheet p) ≡ p = ap (λ (r : PlanRead). r.plan) (rw q at e) in
-        let body : plan_body_fault (plan_sheet p) p ≡ 0 = subst (λ (x : Plan). plan_body_fault (plan_sheet p) x ≡ 0) is (or_else-none _ _ q).1 in
-        (none-fill (plan_sheet p) (plan_end p.n p.k) (or_else-none _ _ body).1).0
-    go (suc k) q e =
-        absurd (
-        let w : Unread (suc k) paper_plan ≡ Read = ap (λ (r : PlanRead). r.answer) (rw q at e) in
-        let c : ◌≡◌ {A = ℕ} 0 1 = cc in
-        omega arith)
-
 -- ---- the search's five ways, and its answer in each
 
 abbrev found_in : Job → Plan
@@ -185,9 +168,6 @@ some-held job j r q m = go (walked (board_of j)).best.held refl
     go true h = h
     go false h = absurd ((search-none job j r).0 h q m)
 
-found-size : (job : List ℕ) (j : Job) (r : Reads job j) → (walked (board_of j)).best.held ≡ true → length (plan_sheet (found_in j)) ≡ size_in j
-found-size job j r h = sheet-size (found_in j) (found-shape job j r h) (found-sound job j r h)
-
 -- ---- spent, and no plan
 
 module _ (job : List ℕ) (budget room v : ℕ) where
@@ -195,11 +175,11 @@ module _ (job : List ℕ) (budget room v : ℕ) where
   spent-says e = go (way job budget room) (sym (answers job budget room (way job budget room)) ∙ e)
     where
       go : (w : Way job budget room) → answer_of job budget room w ≡ Spent v → Spends job budget v
-      go (unread number paper r) e = absurd (let z : ◌≡◌ {A = ℕ} 0 1 = cc in omega arith)
+      go (unread number paper r) e = cc
       go (over j r l) e = record { as_job = j; job_read = r; over = l; given = cc }
-      go (empty j r k h) e = absurd (let z : ◌≡◌ {A = ℕ} 0 1 = cc in omega arith)
-      go (fits j r k h l) e = absurd (let z : ◌≡◌ {A = ℕ} 0 1 = cc in omega arith)
-      go (short j r k h l) e = absurd (let z : ◌≡◌ {A = ℕ} 0 1 = cc in omega arith)
+      go (empty j r k h) e = cc
+      go (fits j r k h l) e = cc
+      go (short j r k h l) e = cc
 
   says-spent : Spends job budget v → search job budget room ≡ Spent v
   says-spent s = answers job budget room (over s.as_job s.job_read s.over) ∙ ap Spent (sym s.given)
@@ -211,11 +191,11 @@ module _ (job : List ℕ) (budget room v : ℕ) where
   none-says e = go (way job budget room) (sym (answers job budget room (way job budget room)) ∙ e)
     where
       go : (w : Way job budget room) → answer_of job budget room w ≡ Nothing v → NoPlan job budget v
-      go (unread number paper r) e = absurd (let z : ◌≡◌ {A = ℕ} 0 1 = cc in omega arith)
-      go (over j r l) e = absurd (let z : ◌≡◌ {A = ℕ} 0 1 = cc in omega arith)
+      go (unread number paper r) e = cc
+      go (over j r l) e = cc
       go (empty j r k h) e = record { as_job = j; job_read = r; kept = k; none = (search-none job j r).0 h; given = cc }
-      go (fits j r k h l) e = absurd (let z : ◌≡◌ {A = ℕ} 0 1 = cc in omega arith)
-      go (short j r k h l) e = absurd (let z : ◌≡◌ {A = ℕ} 0 1 = cc in omega arith)
+      go (fits j r k h l) e = cc
+      go (short j r k h l) e = cc
 
   says_none : NoPlan job budget v → search job budget room ≡ Nothing v
   says_none s =
@@ -246,9 +226,9 @@ module _ (job : List ℕ) (budget room number paper : ℕ) where
           let a : number' ≡ number = cc in
           let b : paper' ≡ paper = cc in
           inl (rw (← a, ← b) r)
-      go (over j r l) e = absurd (let z : ◌≡◌ {A = ℕ} 0 1 = cc in omega arith)
-      go (empty j r k h) e = absurd (let z : ◌≡◌ {A = ℕ} 0 1 = cc in omega arith)
-      go (fits j r k h l) e = absurd (let z : ◌≡◌ {A = ℕ} 0 1 = cc in omega arith)
+      go (over j r l) e = cc
+      go (empty j r k h) e = cc
+      go (fits j r k h l) e = cc
       go (short j r k h l) e =
           let a : number ≡ output_short = cc in
           let b : paper ≡ paper_request = cc in
@@ -264,7 +244,7 @@ module _ (job : List ℕ) (budget room number paper : ℕ) where
               plan = search-found job j r h;
               shape = found-shape job j r h;
               sound = found-sound job j r h;
-              long = rw (found-size job j r h) l;
+              long = rw (sheet-length (found_in j)) l;
             },
           )
 
@@ -274,7 +254,7 @@ module _ (job : List ℕ) (budget room number paper : ℕ) where
       let s = w.2 in
       let j = s.as_job in
       let g = held-plan job j s.job_read s.as_plan s.cost s.plan s.shape s.sound in
-      let size = found-size job j s.job_read g.0 in
+      let size = sheet-length (found_in j) in
       let same : length (plan_sheet s.as_plan) ≡ length (plan_sheet (found_in j)) = ap (λ (p : Plan). length (plan_sheet p)) g.1 in
       rw (w.0, w.1) (answers job budget room (short j s.job_read s.kept g.0 (omega (arith, size, same, s.long))))
 
@@ -294,9 +274,9 @@ module _ (job : List ℕ) (budget : ℕ) (before : List ℕ) (c v size : ℕ) wh
     where
       go : (w : Way job budget (length before)) → answer_of job budget (length before) w ≡ Found c v size
           → Finds job budget before (search_out job budget before) c v size
-      go (unread number paper r) e = absurd (let z : ◌≡◌ {A = ℕ} 0 1 = cc in omega arith)
-      go (over j r l) e = absurd (let z : ◌≡◌ {A = ℕ} 0 1 = cc in omega arith)
-      go (empty j r k h) e = absurd (let z : ◌≡◌ {A = ℕ} 0 1 = cc in omega arith)
+      go (unread number paper r) e = cc
+      go (over j r l) e = cc
+      go (empty j r k h) e = cc
       go (fits j r k h l) e =
           let ec : (walked (board_of j)).best.cost ≡ c = cc in
           let ev : v ≡ (walked (board_of j)).visits = cc in
@@ -311,10 +291,10 @@ module _ (job : List ℕ) (budget : ℕ) (before : List ℕ) (c v size : ℕ) wh
             sound = found-sound job j r h;
             fits = rw (← es) l;
             bytes = rw (← es) (output-found j r k h l);
-            long = found-size job j r h ∙ es;
+            long = sheet-length (found_in j) ∙ es;
             given = ev;
           }
-      go (short j r k h l) e = absurd (let z : ◌≡◌ {A = ℕ} 0 1 = cc in omega arith)
+      go (short j r k h l) e = cc
 
   says-found : (after : List ℕ) → Finds job budget before after c v size
       → (search job budget (length before) ≡ Found c v size) × (after ≡ search_out job budget before)
@@ -322,7 +302,7 @@ module _ (job : List ℕ) (budget : ℕ) (before : List ℕ) (c v size : ℕ) wh
       let j = f.as_job in
       let r = f.job_read in
       let g = held-plan job j r f.as_plan c f.plan f.shape f.sound in
-      let es : size_in j ≡ size = sym (found-size job j r g.0) ∙ ap (λ (p : Plan). length (plan_sheet p)) (sym g.1) ∙ f.long in
+      let es : size_in j ≡ size = sym (sheet-length (found_in j)) ∙ ap (λ (p : Plan). length (plan_sheet p)) (sym g.1) ∙ f.long in
       let l : size_in j ≤ length before = rw es f.fits in (
         answers job budget (length before) (fits j r f.kept g.0 l) ∙ rw (← g.2, ← f.given, es),
         f.bytes ∙ rw (g.1, ← es) (sym (output-found j r f.kept g.0 l)),
@@ -332,6 +312,33 @@ module _ (job : List ℕ) (budget : ℕ) (before : List ℕ) (c v size : ℕ) wh
   pub found-exactly : (after : List ℕ)
       → ((search job budget (length before) ≡ Found c v size) × (after ≡ search_out job budget before)) ↔ Finds job budget before after c v size
   found-exactly after = ((λ w. rw w.1 (found-says w.0)), says-found after)
+
+-- ---- the code's answer, where its word is known: there is one
+
+pub one_searched : (r r' : Result Finding Reason) → searched_of r ≡ searched_of r' → r ≡ r'
+one_searched (Ok (IsFound cost visits length)) (Ok (IsFound cost' visits' length')) e =
+    let c : cost ≡ cost' = cc in
+    let v : visits ≡ visits' = cc in
+    let l : length ≡ length' = cc in
+    λ i. Ok (IsFound (c i) (v i) (l i))
+one_searched (Ok (IsNothing visits)) (Ok (IsNothing visits')) e = let v : visits ≡ visits' = cc in λ i. Ok (IsNothing (v i))
+one_searched (Ok (IsSpent visits)) (Ok (IsSpent visits')) e = let v : visits ≡ visits' = cc in λ i. Ok (IsSpent (v i))
+one_searched (Err x) (Err y) e =
+    let n : number_of x.fault ≡ number_of y.fault = cc in
+    let p : paper_of x.paper ≡ paper_of y.paper = cc in
+    ap (λ (z : Reason). Err z) (refusal-one x y n p)
+one_searched (Ok (IsFound cost visits length)) (Ok (IsNothing visits')) e = cc
+one_searched (Ok (IsFound cost visits length)) (Ok (IsSpent visits')) e = cc
+one_searched (Ok (IsNothing visits)) (Ok (IsFound cost' visits' length')) e = cc
+one_searched (Ok (IsNothing visits)) (Ok (IsSpent visits')) e = cc
+one_searched (Ok (IsSpent visits)) (Ok (IsFound cost' visits' length')) e = cc
+one_searched (Ok (IsSpent visits)) (Ok (IsNothing visits')) e = cc
+one_searched (Ok (IsFound cost visits length)) (Err y) e = cc
+one_searched (Ok (IsNothing visits)) (Err y) e = cc
+one_searched (Ok (IsSpent visits)) (Err y) e = cc
+one_searched (Err x) (Ok (IsFound cost visits length)) e = cc
+one_searched (Err x) (Ok (IsNothing visits)) e = cc
+one_searched (Err x) (Ok (IsSpent visits)) e = cc
 
 -- ---- every other answer leaves the output's bytes as they were
 

@@ -6,7 +6,7 @@ use Rattle.sheets.specs.JobSheet.{read_job}
 use Rattle.sheets.specs.PlanSheet.{PlanShape, plan_sheet, plan_record_fault}
 use Rattle.sheets.specs.declared.Job.{Job}
 use Rattle.sheets.specs.declared.Plan.{Plan}
-use Rattle.sheets.specs.declared.Reading.TheVariants.{Read, Refused as Unread}
+use Rattle.sheets.specs.Answers.{Read, Unread}
 use Rattle.rules.specs.Model.{inst_count}
 use Rattle.rules.specs.Judge.{plan_cost}
 use Rattle.rules.specs.Meets.{Meets, start, inst, Selected}

@@ -1,24 +1,23 @@
 -- What the search answers for any bytes and any budget, and the output's bytes after it: `search` and `search_out`;
 -- `searched_says` gives each case in numbers. `walked` is the walk of document 01, from nothing placed and nothing held.
-use Rattle.std.specs.Prelude.{ℕ, Bool, true, false, ◌&&◌, List, leb, length}
+use Rattle.std.specs.Prelude.{ℕ, Bool, true, false, ◌&&◌, List, leb, length, Result, Ok, Err}
 use Rattle.basics.specs.Answers.{refused_says}
+use Rattle.basics.specs.Faults.{number_of, paper_of}
 use Rattle.basics.specs.Numbers.{budget_spent, no_plan, paper_job, paper_request, outcome_found, outcome_none, outcome_spent}
 use Rattle.basics.specs.declared.Answer.{Answer}
+use Rattle.basics.specs.declared.refusals.Refusal.{Refusal}
 use Rattle.sheets.specs.JobSheet.{read_job}
 use Rattle.sheets.specs.PlanSheet.{write_plan, plan_out}
 use Rattle.sheets.specs.declared.Job.{Job}
-use Rattle.sheets.specs.declared.Reading.{Reading}
-use Rattle.sheets.specs.declared.Reading.TheVariants.{Read, Refused as Unread}
-use Rattle.sheets.specs.declared.Written.{Written}
-use Rattle.sheets.specs.declared.Written.TheVariants.{Wrote, Refused as Unwritten}
+use Rattle.sheets.specs.Answers.{Reading, Read, Unread, Written, Wrote, Refused as Unwritten}
 use Rattle.placing.specs.Bound.{State, walk}
 use Rattle.placing.specs.Board.{board_of}
 use Rattle.placing.specs.Placing.{Placing, cost}
 use Rattle.placing.specs.Plans.{plan_from}
 use Rattle.placing.specs.Options.{none, children}
 use Rattle.placing.specs.declared.Board.{Board}
-use Rattle.search.specs.declared.Searched.{Searched}
-use Rattle.search.specs.declared.Searched.TheVariants.{Found, Nothing, Spent, Refused}
+use Rattle.search.specs.declared.Finding.{Finding}
+use Rattle.search.specs.declared.Finding.TheVariants.{Found as IsFound, Nothing as IsNothing, Spent as IsSpent}
 
 -- ---- the walk
 
@@ -31,6 +30,24 @@ begin = record { visits = 0; best = record { held = false; cost = 0; node = none
 
 unfoldable pub walked : Board → State Placing
 walked b = walk_from b b.n none begin
+
+-- ---- the search's answer
+
+pub data Searched : Type 0 where
+  Found : (cost visits length : ℕ) → Searched
+  Nothing : (visits : ℕ) → Searched
+  Spent : (visits : ℕ) → Searched
+  Refused : (number paper : ℕ) → Searched
+
+-- as the code has it
+abbrev pub found_of : Finding → Searched
+found_of (IsFound cost visits length) = Found cost visits length
+found_of (IsNothing visits) = Nothing visits
+found_of (IsSpent visits) = Spent visits
+
+abbrev pub searched_of : Result Finding Refusal → Searched
+searched_of (Ok x) = found_of x
+searched_of (Err r) = Refused (number_of r.fault) (paper_of r.paper)
 
 -- ---- the answer of a walk that ended at e, within the budget or not, where writing the best's plan gave w
 
@@ -64,7 +81,7 @@ search_job_out j budget before =
     let e = walked b in
     out_if (within budget e && e.best.held) (plan_out (plan_from b e.best.node) before) before
 
--- ---- the search: a job that cannot be read ends the question there (`Unread` is the readers' `Refused`)
+-- ---- the search: a job that cannot be read ends the question there
 
 unfoldable pub if_read : Reading → Searched → Searched
 if_read Read next = next

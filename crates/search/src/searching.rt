@@ -1,159 +1,106 @@
 // The search: the job is read, its plans are walked over, and the best is written.
-ghost use Rattle.std.specs.Prelude.{◌≡◌, length};
+ghost use Rattle.std.specs.Prelude.{◌≡◌, ◌≤◌, ◌<◌, length, MatchOption};
 ghost use Rattle.basics.specs.Answers.{Promise};
-ghost use Rattle.search.specs.Search.{wrote, search_job, search_job_out, if_read, search as search_of, search_out, searched_says as says_of};
-ghost use Rattle.placing.specs.Board.{WasRead};
-ghost use Rattle.search.specs.declared.Searched.TheVariants.{Refused};
+ghost use Rattle.placing.specs.Board.{OfJob, WasRead};
+ghost use Rattle.search.specs.Search.{walked as walked_of, searched_of, search_job, search_job_out, search as search_of, search_out, searched_says as says_of};
+ghost use Rattle.search.specs.Walking.{state_of};
 
-use crate::walking::{arrive, walk};
-use crate::{Arrival, Progress, Searched, Walked};
-use basics::Answer;
+use crate::Finding;
+use crate::walking::Walk;
+use basics::{Answer, Fault, Outcome, Paper, Refusal};
+use placing::Board;
 use placing::boards::board_of;
-use placing::costing::smallest;
+use placing::rows::Rows;
 use sheets::jobs::read_job;
-use sheets::limits::*;
 use sheets::plans::write_plan;
-use sheets::{Job, Plan, Reading, Written};
+use sheets::{Job, Plan};
 
-// The answer on a plan that was found, and written or not.
-fn found(done: Progress, written: Written) -> Searched
-    ensures { result ≡ wrote done.cost done.visits written }
+// The walk from nothing placed over all plans of a board. None: the budget is spent.
+fn walked(board: &Board, budget: u32) -> Option<Walk>
+    requires { OfJob board.now }
+    ensures { MatchOption result (budget < (walked_of board.now).visits)
+        (λ w. ((walked_of board.now).visits ≤ budget) × (state_of w ≡ walked_of board.now)) }
 {
-    match written {
-        Written::Wrote { length } => Searched::Found {
-            cost: done.cost,
-            visits: done.visits,
-            length,
-        },
-        Written::Refused { number, paper } => Searched::Refused { number, paper },
-    }
+    let mut walk = Walk {
+        visits: 0,
+        rows: Rows::none(),
+        best: None,
+    };
+    walk.arrive(budget)?;
+    walk.walk(board, budget, 0, 0)?;
+    Some(walk)
 }
 
+// That the job was read is asked (`WasRead`) and is no type: the judge is lent the same record, whatever it holds.
 // Searches a job that was read.
-fn search_job(job: Job, budget: u32, out: &mut [u8]) -> Searched
-    requires { WasRead job }
-    ensures { Promise (search_job job budget (length out.old)) (search_job_out job budget out.old) result out.new }
+fn search_job(job: &Job, budget: u32, out: &mut [u8]) -> Result<Finding, Refusal>
+    requires { WasRead job.now }
+    ensures { Promise (search_job job.now budget (length out.old)) (search_job_out job.now budget out.old) (searched_of result) out.new }
 {
     let board = board_of(job);
-    let n = board.n as usize;
-    let k = board.k as usize;
-    let mut starts = [0u16; OP_CELLS];
-    let mut insts = [0u16; OP_CELLS];
-    let mut lows = [MAX_INSTS; TYPE_CELLS];
-    let mut best_starts = [0u16; OP_CELLS];
-    let mut best_insts = [0u16; OP_CELLS];
-    let begin = Progress {
-        visits: 0,
-        held: false,
-        cost: 0,
+    let Some(walk) = walked(&board, budget) else {
+        return Ok(Finding::Spent { visits: budget });
     };
-    let arrival = arrive(begin, 0, budget);
-    let Arrival::Open(first) = arrival else {
-        return Searched::Spent { visits: budget };
+    let visits = walk.visits;
+    let Some(best) = walk.best else {
+        return Ok(Finding::Nothing { visits });
     };
-    let walked = walk(
-        n,
-        k,
-        board.t,
-        board.e,
-        board.wire,
-        board.clock,
-        &board.from,
-        &board.to,
-        &board.types,
-        &board.costs,
-        &board.times,
-        &board.delays,
-        &board.spacings,
-        &board.lasts,
-        &board.near,
-        0,
-        0,
-        &mut starts,
-        &mut insts,
-        &mut lows,
-        &mut best_starts,
-        &mut best_insts,
-        first,
-        budget,
-    );
-    let Walked::Done(done) = walked else {
-        return Searched::Spent { visits: budget };
-    };
-    if !done.held {
-        return Searched::Nothing {
-            visits: done.visits,
-        };
-    }
-    let selection = smallest(n, k, &board.types, &best_starts, &best_insts);
     let plan = Plan {
         n: board.n,
         k: board.k,
-        selection,
-        starts: best_starts,
-        insts: best_insts,
+        selection: board.smallest(&best.rows),
+        starts: best.rows.starts,
+        insts: best.rows.insts,
     };
-    found(done, write_plan(plan, out))
+    let length = write_plan(&plan, out)?;
+    Ok(Finding::Found {
+        cost: best.cost,
+        visits,
+        length,
+    })
 }
 
-// The answer on a job that could not be read; none that was read comes here.
-fn unread(answer: Reading) -> Searched
-    ensures { result ≡ if_read answer (Refused 0 0) }
+/// Searches for the cheapest plan of a job sheet within a budget of visits, and writes the plan's sheet to the output.
+pub fn search(job: &[u8], budget: u32, out: &mut [u8]) -> Result<Finding, Refusal>
+    ensures { Promise (search_of job.now budget (length out.old)) (search_out job.now budget out.old) (searched_of result) out.new }
+{
+    let job = read_job(job)?;
+    search_job(&job, budget, out)
+}
+
+// No `From`: `Result` is of std and `Answer` of basics, so none may be written here.
+/// What the search answers.
+pub fn searched_says(answer: Result<Finding, Refusal>) -> Answer
+    ensures { result ≡ says_of (searched_of answer) }
 {
     match answer {
-        Reading::Read => Searched::Refused {
-            number: 0,
-            paper: 0,
-        },
-        Reading::Refused { number, paper } => Searched::Refused { number, paper },
-    }
-}
-
-// Searches for the cheapest plan of a job sheet within a budget of visits, and writes the plan's sheet to the output.
-pub fn search(job: &[u8], budget: u32, out: &mut [u8]) -> Searched
-    ensures { Promise (search_of job.now budget (length out.old)) (search_out job.now budget out.old) result out.new }
-{
-    let read = read_job(job);
-    let answer = read.answer;
-    let Reading::Read = answer else {
-        return unread(answer);
-    };
-    let job_record = read.job;
-    search_job(job_record, budget, out)
-}
-
-pub fn searched_says(answer: Searched) -> Answer
-    ensures { result ≡ says_of answer }
-{
-    match answer {
-        Searched::Found {
+        Ok(
+            Finding::Found {
+                cost,
+                visits,
+                length,
+            },
+        ) => Answer {
+            outcome: Outcome::Found as u32,
             cost,
             visits,
             length,
-        } => Answer {
-            outcome: basics::FOUND,
-            number: 0,
-            paper: 0,
-            cost,
-            visits,
-            length,
+            ..Answer::default()
         },
-        Searched::Nothing { visits } => Answer {
-            outcome: basics::NONE,
-            number: basics::NO_PLAN,
-            paper: basics::PAPER_JOB,
-            cost: 0,
+        Ok(Finding::Nothing { visits }) => Answer {
+            outcome: Outcome::Nothing as u32,
+            number: Fault::NoPlan.number(),
+            paper: Paper::Job.number(),
             visits,
-            length: 0,
+            ..Answer::default()
         },
-        Searched::Spent { visits } => Answer {
-            outcome: basics::SPENT,
-            number: basics::BUDGET_SPENT,
-            paper: basics::PAPER_REQUEST,
-            cost: 0,
+        Ok(Finding::Spent { visits }) => Answer {
+            outcome: Outcome::Spent as u32,
+            number: Fault::BudgetSpent.number(),
+            paper: Paper::Request.number(),
             visits,
-            length: 0,
+            ..Answer::default()
         },
-        Searched::Refused { number, paper } => basics::refused(number, paper),
+        Err(refusal) => refusal.into(),
     }
 }

@@ -1,239 +1,99 @@
 // The walk: operations are placed in number order, one level deeper each time.
-ghost use Rattle.std.specs.Prelude.{◌≡◌, ◌+◌, ◌-◌, ◌≤◌};
+ghost use Rattle.std.specs.Prelude.{◌≡◌, ◌+◌, ◌-◌, ◌≤◌, ◌<◌, MatchOption};
+ghost use Rattle.placing.specs.Bound.{shut as shut_of};
 ghost use Rattle.placing.specs.Options.{put};
-ghost use Rattle.placing.specs.Ready.{board_with, placing, option_at, Ready, Places};
+ghost use Rattle.placing.specs.Ready.{placing_of, option_at, Ready, Places};
 ghost use Rattle.search.specs.Search.{walk_from};
-ghost use Rattle.search.specs.Walking.{state_of, arrival, goes_on, Walks};
+ghost use Rattle.search.specs.Walking.{state_of, counted, goes_on, Walks};
 
-use crate::{Arrival, Progress, Walked};
-use placing::boards::NEAR_TABLE;
-use placing::costing::{cost_with, lower};
-use placing::fitting::{first_start, fits};
-use rules::model::UNIT_CELLS;
-use sheets::limits::*;
+use placing::Board;
+use placing::rows::Rows;
 
-// One arrival more, at the cost `here`: it goes no further where a best is held and the cost is not below it.
-pub(crate) fn arrive(so_far: Progress, here: u32, budget: u32) -> Arrival
-    ensures { result ≡ arrival budget so_far here }
-{
-    if budget <= so_far.visits {
-        return Arrival::Spent;
-    }
-    let counted = Progress {
-        visits: so_far.visits + 1,
-        held: so_far.held,
-        cost: so_far.cost,
-    };
-    if so_far.held & (so_far.cost <= here) {
-        return Arrival::Shut(counted);
-    }
-    Arrival::Open(counted)
+// All operations placed, and the cost.
+#[derive(Clone, Copy)]
+pub(crate) struct Best {
+    pub(crate) cost: u32,
+    pub(crate) rows: Rows,
 }
 
-// Visits the placing with operation op at step s on instance i too, which is live, walks on from it, and takes the row back.
-#[cycle(visit_walk)]
-fn visit<'a>(
-    n: usize,
-    k: usize,
-    t: u16,
-    e: u16,
-    wire: u16,
-    clock: u16,
-    from: &'a [u16; LINK_CELLS],
-    to: &'a [u16; LINK_CELLS],
-    types: &'a [u16; INST_CELLS],
-    costs: &'a [u16; TYPE_CELLS],
-    times: &'a [u16; UNIT_CELLS],
-    delays: &'a [u16; UNIT_CELLS],
-    spacings: &'a [u16; UNIT_CELLS],
-    lasts: &'a [u16; UNIT_CELLS],
-    near: &'a [u16; NEAR_TABLE],
-    op: usize,
-    here: u32,
-    s: u16,
-    i: usize,
-    starts: &mut [u16; OP_CELLS],
-    insts: &mut [u16; OP_CELLS],
-    lows: &mut [u16; TYPE_CELLS],
-    best_starts: &mut [u16; OP_CELLS],
-    best_insts: &mut [u16; OP_CELLS],
-    so_far: Progress,
-    budget: u32,
-) -> Walked
-    requires { Places
-        (board_with n k t e wire clock from.now to.now types.now costs.now times.now delays.now spacings.now lasts.now near.now)
-        op op (placing starts.old insts.old) lows.old here s i
-        × (so_far.visits ≤ budget) }
-    ensures { Walks budget
-        (walk_from
-        (board_with n k t e wire clock from.now to.now types.now costs.now times.now delays.now spacings.now lasts.now near.now)
-        (n - (op + 1)) (put (placing starts.old insts.old) op (option_at s i)) (state_of so_far best_starts.old best_insts.old))
-        result (placing starts.old insts.old) (placing starts.new insts.new) (placing best_starts.new best_insts.new)
-        lows.old lows.new }
-{
-    let y = types[i] as usize;
-    let low = lows[y];
-    lows[y] = lower(low, i as u16);
-    let cost = cost_with(types, costs, lows, k, here, low, i);
-    let arrival = arrive(so_far, cost, budget);
-    match arrival {
-        Arrival::Spent => Walked::Spent,
-        Arrival::Shut(next) => {
-            lows[y] = low;
-            Walked::Done(next)
-        }
-        Arrival::Open(next) => {
-            let start_was = starts[op];
-            let inst_was = insts[op];
-            starts[op] = s;
-            insts[op] = i as u16;
-            let walked = walk(
-                n,
-                k,
-                t,
-                e,
-                wire,
-                clock,
-                from,
-                to,
-                types,
-                costs,
-                times,
-                delays,
-                spacings,
-                lasts,
-                near,
-                op + 1,
-                cost,
-                starts,
-                insts,
-                lows,
-                best_starts,
-                best_insts,
-                next,
-                budget,
-            );
-            let Walked::Done(done) = walked else {
-                return Walked::Spent;
-            };
-            starts[op] = start_was;
-            insts[op] = inst_was;
-            lows[y] = low;
-            Walked::Done(done)
-        }
-    }
+// How far a walk has come: arrivals so far, the rows placed, and the best where one is held.
+#[derive(Clone, Copy)]
+pub(crate) struct Walk {
+    pub(crate) visits: u32,
+    pub(crate) rows: Rows,
+    pub(crate) best: Option<Best>,
 }
 
-// An arrival that goes on: operations below op are placed, at the cost `here`, and the walk has come as far as `so_far`. `lows`
-// has each type's lowest instance in use.
-#[cycle(visit_walk)]
-pub(crate) fn walk<'a>(
-    n: usize,
-    k: usize,
-    t: u16,
-    e: u16,
-    wire: u16,
-    clock: u16,
-    from: &'a [u16; LINK_CELLS],
-    to: &'a [u16; LINK_CELLS],
-    types: &'a [u16; INST_CELLS],
-    costs: &'a [u16; TYPE_CELLS],
-    times: &'a [u16; UNIT_CELLS],
-    delays: &'a [u16; UNIT_CELLS],
-    spacings: &'a [u16; UNIT_CELLS],
-    lasts: &'a [u16; UNIT_CELLS],
-    near: &'a [u16; NEAR_TABLE],
-    op: usize,
-    here: u32,
-    starts: &mut [u16; OP_CELLS],
-    insts: &mut [u16; OP_CELLS],
-    lows: &mut [u16; TYPE_CELLS],
-    best_starts: &mut [u16; OP_CELLS],
-    best_insts: &mut [u16; OP_CELLS],
-    so_far: Progress,
-    budget: u32,
-) -> Walked
-    requires { Ready
-        (board_with n k t e wire clock from.now to.now types.now costs.now times.now delays.now spacings.now lasts.now near.now)
-        op (placing starts.old insts.old) lows.old here
-        × (so_far.visits ≤ budget) }
-    ensures { Walks budget
-        (goes_on
-        (board_with n k t e wire clock from.now to.now types.now costs.now times.now delays.now spacings.now lasts.now near.now)
-        (n - op) (placing starts.old insts.old) (state_of so_far best_starts.old best_insts.old))
-        result (placing starts.old insts.old) (placing starts.new insts.new) (placing best_starts.new best_insts.new)
-        lows.old lows.new }
-{
-    if op == n {
-        *best_starts = *starts;
-        *best_insts = *insts;
-        return Walked::Done(Progress {
-            visits: so_far.visits,
-            held: true,
-            cost: here,
-        });
+impl Walk {
+    // One arrival more. None: the budget is spent.
+    pub(crate) fn arrive(&mut self, budget: u32) -> Option<()>
+        ensures { MatchOption result (budget ≤ self.old.visits) (λ _. (self.old.visits < budget) × (self.new ≡ counted self.old)) }
+    {
+        if budget <= self.visits {
+            return None;
+        }
+        self.visits += 1;
+        Some(())
     }
-    let mut state = so_far;
-    let first = first_start(delays, near, starts, insts, op);
-    let mut s = first;
-    while s <= t as u32 {
-        let mut i: usize = 0;
-        while i < k {
-            if fits(
-                from,
-                to,
-                e,
-                wire,
-                clock,
-                times,
-                delays,
-                spacings,
-                lasts,
-                near,
-                starts,
-                insts,
-                first < s,
-                op,
-                op,
-                s as u16,
-                i,
-            ) {
-                let visited = visit(
-                    n,
-                    k,
-                    t,
-                    e,
-                    wire,
-                    clock,
-                    from,
-                    to,
-                    types,
-                    costs,
-                    times,
-                    delays,
-                    spacings,
-                    lasts,
-                    near,
-                    op,
-                    here,
-                    s as u16,
-                    i,
-                    starts,
-                    insts,
-                    lows,
-                    best_starts,
-                    best_insts,
-                    state,
-                    budget,
-                );
-                let Walked::Done(next) = visited else {
-                    return Walked::Spent;
-                };
-                state = next;
+
+    // A best is held, and the cost `here` is not below its cost.
+    fn shut(&self, here: u32) -> bool
+        ensures { result ≡ shut_of (state_of self.now).best here }
+    {
+        self.best.as_ref().is_some_and(|best| best.cost <= here)
+    }
+
+    // An option is three numbers, as Board::fits takes it.
+    // Visits the placing with operation op at step s on instance i too, which is live, walks on from it, and takes the row back.
+    // None: the budget is spent.
+    #[cycle(visit_walk)]
+    fn visit(
+        &mut self,
+        board: &Board,
+        budget: u32,
+        op: usize,
+        here: u32,
+        s: u16,
+        i: usize,
+    ) -> Option<()>
+        requires { Places board.now op op (placing_of self.old.rows) self.old.rows.lows here s i × (self.old.visits ≤ budget) }
+        ensures { Walks budget
+            (walk_from board.now (board.now.n - (op + 1)) (put (placing_of self.old.rows) op (option_at s i)) (state_of self.old))
+            result self.old self.new }
+    {
+        let low = self.rows.lower(board, i);
+        let cost = board.cost_with(&self.rows, here, low, i);
+        self.arrive(budget)?;
+        if !self.shut(cost) {
+            let was = self.rows.place(op, s, i);
+            self.walk(board, budget, op + 1, cost)?;
+            self.rows.take_back(op, was);
+        }
+        self.rows.raise(board, i, low);
+        Some(())
+    }
+
+    // An arrival that goes on: operations below op are placed, at the cost `here`. None: the budget is spent.
+    #[cycle(visit_walk)]
+    pub(crate) fn walk(&mut self, board: &Board, budget: u32, op: usize, here: u32) -> Option<()>
+        requires { Ready board.now op (placing_of self.old.rows) self.old.rows.lows here × (self.old.visits ≤ budget) }
+        ensures { Walks budget (goes_on board.now (board.now.n - op) (placing_of self.old.rows) (state_of self.old)) result self.old self.new }
+    {
+        if op == board.n as usize {
+            self.best = Some(Best {
+                cost: here,
+                rows: self.rows,
+            });
+            return Some(());
+        }
+        let first = board.first_start(&self.rows, op);
+        for s in first..=board.t as u32 {
+            for i in 0..board.k as usize {
+                if board.fits(&self.rows, first < s, op, op, s as u16, i) {
+                    self.visit(board, budget, op, here, s as u16, i)?;
+                }
             }
-            i += 1;
         }
-        s += 1;
+        Some(())
     }
-    Walked::Done(state)
 }

@@ -8,8 +8,8 @@ use borrow.Author.Tests.{leb-true, le-leb, lt-leb, eqb-true, eq-eqb}
 use lib.Dec.{leb, lit<}
 use lib.ListN.{length}
 use Rattle.basics.specs.Numbers.{bits_run_out, fill_broken, form_differs}
-use Rattle.basics.proofs.CountLaws.{and_both, both-and}
-use Rattle.basics.proofs.FaultLaws.{unless-none, none-unless, or_else-none, none-or_else}
+use Rattle.basics.proofs.CountLaws.{count_laws, and_both, both-and}
+use Rattle.basics.proofs.FaultLaws.{fault_laws, first_laws, unless-none, none-unless, or_else-none, none-or_else}
 use Rattle.bits.specs.Bits.{field}
 use Rattle.bits.specs.Sheet.{bytes_for, fill}
 use Rattle.sheets.specs.Limits.{form_bits}
@@ -51,3 +51,7 @@ module _ (s : List ℕ) where
   none-fill end h =
       let b = and_both _ _ (unless-none _ fill_broken (lit< tt) h) in
       (eqb-true _ _ b.0, eqb-true _ _ b.1)
+
+-- ---- of groups tested one by one, with what is counted on the way
+
+pub ruleset group_laws = (fault_laws, first_laws, count_laws)

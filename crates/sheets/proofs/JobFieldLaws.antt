@@ -1,20 +1,26 @@
 -- A job's fields: their widths, that they fit where the record has no fault, and that putting them makes the sheet.
 use Prim.Native.Nat.{ℕ, ◌+◌, ◌*◌, ◌^◌, ◌≤◌, ◌<◌}
-use mathlib.Core.Path.{◌≡◌, sym, ap, ap₂, subst, ◌∙◌}
+use mathlib.Core.Path.{◌≡◌, refl, sym, ap, ap₂, subst, ◌∙◌}
 use mathlib.Core.List.{List, ◌++◌}
 use native.Mathlib.Omega.{arith}
 use lib.Dec.{lit<}
-use lib.ListN.{length, drop}
+use lib.ListN.{length, take, drop}
 use Rattle.basics.specs.Tables.{cell}
+use Rattle.std.specs.Prelude.{Result, Ok}
+use Rattle.basics.specs.Faults.{fault_in, blamed}
+use Rattle.basics.specs.declared.refusals.Fault.{Fault}
+use Rattle.basics.specs.declared.refusals.Paper.{Paper}
+use Rattle.basics.proofs.FaultLaws.{blamed-none}
+use Rattle.sheets.specs.JobRecord.{job_record_fault}
 use Rattle.bits.specs.Bits.{Bytes, put_field}
-use Rattle.bits.specs.Sheet.{total, bytes_for, fill, pack, many, put_all}
-use Rattle.bits.proofs.SheetLaws.{Fit, total-append, total-many, fit_append, fit-many, put-append, put-pack}
+use Rattle.bits.specs.Sheet.{Field, total, bytes_for, fill, pack, many, put_all}
+use Rattle.bits.proofs.SheetLaws.{Fit, total-append, total-many, fit_append, fit-many, put-append, put-many, put-pack}
 use Rattle.sheets.specs.Limits.{kind_count, op_bits, time_bits, kind_bits, cost_bits, copies_bits, job_head, link_bits, type_head, type_bits, pair_bits}
 use Rattle.sheets.specs.Columns.{single, double}
-use Rattle.sheets.specs.JobSheet.{types_at, job_end, job_head_fields, type_fields, graph_fields, unit_fields, job_fields, job_sheet, TypesFit}
+use Rattle.sheets.specs.JobSheet.{links_at, types_at, job_end, job_head_fields, type_fields, graph_fields, unit_fields, job_fields, job_sheet, FieldsFit}
 use Rattle.sheets.specs.declared.Job.{Job}
-use Rattle.sheets.proofs.ColumnLaws.{total-single, total-double}
-use Rattle.sheets.proofs.RecordLaws.{JobSound}
+use Rattle.sheets.proofs.ColumnLaws.{total-single, total-double, none-put, front_fits, front_singles, front_doubles, part_doubles}
+use Rattle.sheets.proofs.RecordLaws.{JobSound, none-record}
 
 -- ---- widths
 
@@ -45,31 +51,32 @@ module _ (j : Job) where
 
 -- ---- values fit
 
-module _ (j : Job) (h : JobSound j) where
-  pub kinds-fit : (i : ℕ) → i < j.n → cell j.kinds i < 2 ^ kind_bits
-  kinds-fit i l = omega (arith, h.kinds i l)
+pub fields-fit : (j : Job) → JobSound j → FieldsFit j
+fields-fit j h =
+    let q = h.counts in
+    record {
+      ops = q.ops;
+      links = q.links;
+      types = q.types;
+      steps = h.steps;
+      clock = q.short;
+      wire = h.wire;
+      kinds_fit = λ i l. omega (arith, h.kinds i l);
+      from_fit = λ i l. omega (arith, h.links i l);
+      to_fit = λ i l. omega (arith, h.links i l);
+      copies_fit = λ y l. omega (arith, h.copies y l);
+      times_fit = λ c l. omega (arith, (h.pairs c l).short);
+      intervals_fit = λ c l. omega (arith, (h.pairs c l).within);
+    }
 
-  pub from-fit : (i : ℕ) → i < j.e → cell j.from (0 + i) < 2 ^ op_bits
-  from-fit i l =
-      let e : 0 + i ≡ i = omega arith in
-      rw e (omega (arith, h.links i l, h.counts.ops))
+-- as the writer learns it
+pub fields_fit : (j : Job) (who : Paper) (found : Result (Unit {0}) Fault) → fault_in found ≡ job_record_fault j → Ok tt ≡ blamed who found → FieldsFit j
+fields_fit j who found f e = fields-fit j (none-record j (sym f ∙ blamed-none who found tt e))
 
-  pub to-fit : (i : ℕ) → i < j.e → cell j.to (0 + i) < 2 ^ op_bits
-  to-fit i l =
-      let e : 0 + i ≡ i = omega arith in
-      rw e (omega (arith, h.links i l, h.counts.ops))
-
-  pub types-fit : TypesFit j.copies j.times j.intervals j.m
-  types-fit = record {
-    copies_fit = λ y l. omega (arith, h.copies y l);
-    times_fit = λ c l. omega (arith, (h.pairs c l).short);
-    intervals_fit = λ c l. omega (arith, (h.pairs c l).within);
-  }
-
--- ---- one type
+-- ---- what is put
 
 -- cost, copies, then the pairs
-pub put-type : (s : List ℕ) (here : ℕ) (costs copies times intervals : List ℕ) (y : ℕ)
+put-type : (s : List ℕ) (here : ℕ) (costs copies times intervals : List ℕ) (y : ℕ)
     → put_all (put_field (put_field s here cost_bits (cell costs y)) (here + cost_bits) copies_bits (cell copies y)) (here + type_head)
     (many (double time_bits times time_bits intervals (kind_count * y)) kind_count)
     ≡ put_all s here (type_fields costs copies times intervals y)
@@ -79,63 +86,97 @@ put-type s here costs copies times intervals y =
     ap (λ (k : ℕ). put_all (put_field (put_field s here cost_bits (cell costs y)) (here + cost_bits) copies_bits (cell copies y)) k
     (many (double time_bits times time_bits intervals (kind_count * y)) kind_count)) e
 
-type-fit : (costs copies times intervals : List ℕ) (m : ℕ) → TypesFit copies times intervals m → ((y : ℕ) → cell costs y < 2 ^ cost_bits)
-    → (y : ℕ) → y < m → Fit (type_fields costs copies times intervals y)
-unfolding type_fields Fit
-type-fit costs copies times intervals m h k y l = (
-  k y,
-  (
-    h.copies_fit y l,
-    fit-many (double time_bits times time_bits intervals (kind_count * y)) kind_count
-        (λ i q. (h.times_fit (kind_count * y + i) (omega arith), (h.intervals_fit (kind_count * y + i) (omega arith), tt))),
-  ),
-)
+module _ (j : Job) (s : List ℕ) where
+  -- kinds, then links
+  pub graph-put : (t u : List ℕ) → j.n ≤ length j.kinds → j.e ≤ length j.from
+      → t ≡ put_all s job_head (many (single kind_bits (take j.n j.kinds)) (length (take j.n j.kinds)))
+      → u ≡ put_all t (links_at j.n) (many (double op_bits (take j.e j.from) op_bits (take j.e j.to) 0) (length (take j.e j.from)))
+      → u ≡ put_all s job_head (graph_fields j)
+  graph-put t u n e p q =
+      let kinds : List Field = many (single kind_bits j.kinds) j.n in
+      let links : List Field = many (double op_bits j.from op_bits j.to 0) j.e in
+      q ∙ rw (p, front_singles kind_bits j.kinds j.n n, front_doubles op_bits j.from op_bits j.to j.e e, put-append s job_head kinds links, total-kinds j) refl
 
-module _ (j : Job) (h : JobSound j) (k : (y : ℕ) → cell j.costs y < 2 ^ cost_bits) where
+  -- one type more: cost, copies, then the pairs
+  pub unit-put : (at y : ℕ) (t a b u : List ℕ) → kind_count * y + kind_count ≤ length j.times
+      → t ≡ put_all s at (many (type_fields j.costs j.copies j.times j.intervals) y)
+      → a ≡ put_field t (at + type_bits * y) cost_bits (cell j.costs y)
+      → b ≡ put_field a (at + type_bits * y + cost_bits) copies_bits (cell j.copies y)
+      → u ≡ put_all b (at + type_bits * y + type_head)
+      (many (double time_bits (take kind_count (drop (kind_count * y) j.times)) time_bits (take kind_count (drop (kind_count * y) j.intervals)) 0) (length (take kind_count (drop (kind_count * y) j.times))))
+      → u ≡ put_all s at (many (type_fields j.costs j.copies j.times j.intervals) (y + 1))
+  unit-put at y t a b u h e p q r =
+      let f : ℕ → List Field = type_fields j.costs j.copies j.times j.intervals in
+      r ∙ rw (part_doubles time_bits j.times time_bits j.intervals (kind_count * y) kind_count h, q, p, e)
+      (put-type (put_all s at (many f y)) (at + type_bits * y) j.costs j.copies j.times j.intervals y
+      ∙ put-many f type_bits (total-type j.costs j.copies j.times j.intervals) s at y)
+
+  -- head, graph and units, one behind the other
+  pub parts-put : (a b u : List ℕ) → a ≡ put_all s 0 (job_head_fields j) → b ≡ put_all a job_head (graph_fields j) → u ≡ put_all b (types_at j.n j.e) (unit_fields j)
+      → u ≡ put_all s 0 (job_fields j)
+  unfolding total
+  parts-put a b u p q r =
+      let at : job_head + total (graph_fields j) ≡ types_at j.n j.e = omega (arith, total_graph j) in
+      r ∙ rw (q, ← at, p)
+      (sym (put-append (put_all s 0 (job_head_fields j)) job_head (graph_fields j) (unit_fields j))
+      ∙ sym (put-append s 0 (job_head_fields j) (graph_fields j ++ unit_fields j)))
+
+pub ruleset job_put_laws = (none-put, front_fits, graph-put, unit-put, parts-put)
+
+-- ---- the sheet
+
+module _ (j : Job) (h : FieldsFit j) (k : (y : ℕ) → cell j.costs y < 2 ^ cost_bits) where
+  type-fit : (y : ℕ) → y < j.m → Fit (type_fields j.costs j.copies j.times j.intervals y)
+  unfolding type_fields Fit
+  type-fit y l = (
+    k y,
+    (
+      h.copies_fit y l,
+      fit-many (double time_bits j.times time_bits j.intervals (kind_count * y)) kind_count
+          (λ i q. (h.times_fit (kind_count * y + i) (omega arith), (h.intervals_fit (kind_count * y + i) (omega arith), tt))),
+    ),
+  )
+
+  link-fit : (i : ℕ) → i < j.e → Fit (double op_bits j.from op_bits j.to 0 i)
+  unfolding Fit
+  link-fit i l =
+      let e : 0 + i ≡ i = omega arith in
+      rw e (h.from_fit i l, (h.to_fit i l, tt))
+
   pub fit-job : Fit (job_fields j)
   unfolding Fit
-  fit-job =
-      let c = h.counts in (
-        lit< tt,
+  fit-job = (
+    lit< tt,
+    (
+      omega (arith, h.ops),
+      (
+        omega (arith, h.links),
         (
-          omega (arith, c.ops),
+          omega (arith, h.types),
           (
-            omega (arith, c.links),
+            omega (arith, h.steps),
             (
-              omega (arith, c.types),
+              omega (arith, h.clock),
               (
-                omega (arith, h.steps),
-                (
-                  omega (arith, c.short),
-                  (
-                    omega (arith, h.wire),
-                    fit_append (graph_fields j) (unit_fields j)
-                        (fit_append (many (single kind_bits j.kinds) j.n) (many (double op_bits j.from op_bits j.to 0) j.e)
-                        (fit-many (single kind_bits j.kinds) j.n (λ i l. (kinds-fit j h i l, tt)))
-                        (fit-many (double op_bits j.from op_bits j.to 0) j.e (λ i l. (from-fit j h i l, (to-fit j h i l, tt)))))
-                        (fit-many (type_fields j.costs j.copies j.times j.intervals) j.m
-                        (type-fit j.costs j.copies j.times j.intervals j.m (types-fit j h) k)),
-                  ),
-                ),
+                omega (arith, h.wire),
+                fit_append (graph_fields j) (unit_fields j)
+                    (fit_append (many (single kind_bits j.kinds) j.n) (many (double op_bits j.from op_bits j.to 0) j.e)
+                    (fit-many (single kind_bits j.kinds) j.n (λ i l. (h.kinds_fit i l, tt)))
+                    (fit-many (double op_bits j.from op_bits j.to 0) j.e link-fit))
+                    (fit-many (type_fields j.costs j.copies j.times j.intervals) j.m type-fit),
               ),
             ),
           ),
         ),
-      )
+      ),
+    ),
+  )
 
-  -- head, graph and units, one behind the other, and the fill
+  -- all fields, and the fill
   pub put-job : (out : List ℕ) → Bytes out → bytes_for (job_end j.n j.e j.m) ≤ length out
-      → put_field (put_all (put_all (put_all out 0 (job_head_fields j)) job_head (graph_fields j)) (types_at j.n j.e) (unit_fields j))
-      (job_end j.n j.e j.m) (fill (job_end j.n j.e j.m)) 0
+      → put_field (put_all out 0 (job_fields j)) (job_end j.n j.e j.m) (fill (job_end j.n j.e j.m)) 0
       ≡ job_sheet j ++ drop (bytes_for (job_end j.n j.e j.m)) out
-  unfolding job_sheet total
+  unfolding job_sheet
   put-job out hs l =
-      let u : List ℕ = put_all out 0 (job_head_fields j) in
-      let g : List ℕ = put_all u job_head (graph_fields j) in
-      let at : job_head + total (graph_fields j) ≡ types_at j.n j.e = omega (arith, total_graph j) in
-      let e : put_all g (types_at j.n j.e) (unit_fields j) ≡ put_all out 0 (job_fields j) =
-      ap (λ (k : ℕ). put_all g k (unit_fields j)) (sym at) ∙ sym (put-append u job_head (graph_fields j) (unit_fields j))
-      ∙ sym (put-append out 0 (job_head_fields j) (graph_fields j ++ unit_fields j)) in
-      ap (λ (t : List ℕ). put_field t (job_end j.n j.e j.m) (fill (job_end j.n j.e j.m)) 0) e
-      ∙ subst (λ (k : ℕ). put_field (put_all out 0 (job_fields j)) k (fill k) 0 ≡ pack (job_fields j) ++ drop (bytes_for k) out) (total-job j)
+      subst (λ (k : ℕ). put_field (put_all out 0 (job_fields j)) k (fill k) 0 ≡ pack (job_fields j) ++ drop (bytes_for k) out) (total-job j)
       (put-pack out (job_fields j) hs fit-job (subst (λ (k : ℕ). bytes_for k ≤ length out) (sym (total-job j)) l))

@@ -1,24 +1,26 @@
 -- Laws of a job's rules and of its reader: what no fault means, and the answer from the faults found.
 use Prim.Native.Nat.{ℕ, zero, suc, ◌-◌, ◌≤◌}
-use mathlib.Core.Path.{◌≡◌, refl, ◌∙◌}
-use mathlib.Core.Bool.{◌&&◌, ◌||◌}
+use mathlib.Core.Path.{◌≡◌, refl, sym, ◌∙◌}
+use mathlib.Core.Bool.{Bool, true, false, ◌&&◌, ◌||◌}
 use mathlib.Core.List.{List}
 use native.Mathlib.Omega.{arith}
 use borrow.Author.Tests.{leb-true}
 use lib.Dec.{ltb, eqb, lit<}
-use lib.ListN.{length}
-use Rattle.basics.specs.Faults.{◌or_else◌, first}
+use Rattle.std.specs.Prelude.{Some, Result, Ok, Err, cond}
+use Rattle.std.specs.declared.cmp.Ordering.TheVariants.{Less, Equal, Greater}
+use Rattle.std.specs.Ordering.{nat_cmp, is_some_and, is_lt, partial_ordering_then}
+use Rattle.basics.specs.Faults.{fault_in, number_of, blamed}
+use Rattle.basics.specs.declared.refusals.Fault.{Fault}
+use Rattle.basics.specs.declared.refusals.Paper.TheVariants.{Job as JobPaper}
+use Rattle.basics.specs.declared.refusals.Refusal.{Refusal}
 use Rattle.basics.specs.Numbers.{outside_limit}
 use Rattle.basics.specs.Tables.{cell}
 use Rattle.basics.proofs.CountLaws.{and_both}
-use Rattle.basics.proofs.FaultLaws.{or_else-none, unless-none}
+use Rattle.basics.proofs.FaultLaws.{or_else-none, or_else-go, stopped, went, unless-none, number-some, blamed-none, blamed-fault, blamed-paper}
 use Rattle.sheets.specs.Limits.{max_ops, max_links, max_types, max_time}
-use Rattle.sheets.specs.Groups.{runs_out, fill_fault}
 use Rattle.sheets.specs.JobRecord.{job_counts_fault, ascends}
-use Rattle.sheets.specs.JobSheet.{links_at, types_at, job_end, n_in, e_in, m_in, clock_in, job_in, job_head_fault, link_group, type_group, job_tables_fault, job_body_fault, job_fault, job_refused, job_answer, read_job}
+use Rattle.sheets.specs.JobSheet.{n_in, e_in, m_in, clock_in, job_in, job_head_fault, job_body_fault, job_fault, job_refused, job_answer, read_job, job_read_of}
 use Rattle.sheets.specs.declared.Job.{Job}
-use Rattle.sheets.specs.declared.JobRead.{JobRead}
-use Rattle.sheets.specs.declared.Reading.TheVariants.{Read}
 
 -- a link that is not the first, and the one before it
 pub ascends-behind : (from to : List ℕ) (i : ℕ) → (i ≡ 0 → ⊥)
@@ -27,6 +29,18 @@ pub ascends-behind : (from to : List ℕ) (i : ℕ) → (i ≡ 0 → ⊥)
 unfolding ascends
 ascends-behind from to zero h = absurd (h refl)
 ascends-behind from to (suc i) h = let e : suc i - 1 ≡ i = omega arith in rw e
+
+-- pairs in order: by the first numbers, then by the second
+pairs-by : (p q r s : Bool) → is_some_and is_lt (partial_ordering_then (Some (cond p Less (cond q Equal Greater))) (Some (cond r Less (cond s Equal Greater)))) ≡ (p || (q && r))
+pairs-by true q r s = refl
+pairs-by false true true s = refl
+pairs-by false true false true = refl
+pairs-by false true false false = refl
+pairs-by false false r s = refl
+
+pub pairs-in_order : (a b c d : ℕ)
+    → is_some_and is_lt (partial_ordering_then (Some (nat_cmp a c)) (Some (nat_cmp b d))) ≡ (ltb a c || (eqb a c && ltb b d))
+pairs-in_order a b c d = pairs-by (ltb a c) (eqb a c) (ltb b d) (eqb b d)
 
 -- ---- counts within their limits
 
@@ -50,24 +64,47 @@ pub head-counts : (s : List ℕ) → job_head_fault s ≡ 0 → Counts (n_in s) 
 unfolding job_head_fault
 head-counts s h = none-counts _ _ _ _ (or_else-none _ _ (or_else-none _ _ h).1).1
 
+pub head_ops : (s : List ℕ) → job_head_fault s ≡ 0 → n_in s ≤ max_ops
+head_ops s h = (head-counts s h).ops
+
+pub head_links : (s : List ℕ) → job_head_fault s ≡ 0 → e_in s ≤ max_links
+head_links s h = (head-counts s h).links
+
+pub head_types : (s : List ℕ) → job_head_fault s ≡ 0 → m_in s ≤ max_types
+head_types s h = (head-counts s h).types
+
+pub ruleset head_laws = (head_ops, head_links, head_types)
+
 -- ---- the reader's answer
 
 pub job-head : (s : List ℕ) → job_fault s ≡ 0 → job_head_fault s ≡ 0
 unfolding job_fault
 job-head s h = (or_else-none _ _ h).0
 
-pub job-refused : (s : List ℕ) (k : ℕ) (r : JobRead) → r ≡ job_refused k → k ≡ job_fault s → (k ≡ 0 → ⊥) → r ≡ read_job s
-unfolding read_job job_answer
-job-refused s zero r w e q = absurd (q refl)
-job-refused s (suc k) r w e q = rw (← e) w
+answers-fault : (k : ℕ) (j : Job) → (k ≡ 0 → ⊥) → job_answer k j ≡ job_refused k
+unfolding job_answer
+answers-fault zero j q = absurd (q refl)
+answers-fault (suc k) j q = refl
 
-pub job-read : (s : List ℕ) (j : Job) → job_fault s ≡ 0 → j ≡ job_in s → ◌≡◌ {A = JobRead} (record { answer = Read; job = j }) (read_job s)
-unfolding read_job job_answer
-job-read s j e w = rw (e, w)
+-- refused by a fault found in the header, or behind it, and read where none is found
+module _ (s : List ℕ) {A : Type 0} (found : Result A Fault) where
+  refused : (r : Refusal) → Err r ≡ blamed JobPaper found → fault_in found ≡ job_fault s → job_read_of (Err r) ≡ read_job s
+  unfolding read_job
+  refused r e f =
+      let n = blamed-fault JobPaper found r e in
+      rw (← f, ← n, blamed-paper JobPaper found r e) (sym (answers-fault (number_of r.fault) (job_in s) (number-some r.fault)))
 
--- the faults behind a header, found one by one
-pub job-body : (s : List ℕ) (j : Job) (tables body : ℕ)
-    → tables ≡ first (link_group (length s) j.from j.to j.n) j.e or_else first (type_group (length s) (types_at j.n j.e) j.copies j.times j.intervals) j.m
-    → body ≡ runs_out (length s) (links_at j.n) or_else tables or_else fill_fault s (job_end j.n j.e j.m) → body ≡ job_body_fault s j
-unfolding job_body_fault job_tables_fault
-job-body s j tables body t e = e ∙ rw t
+  pub head-refused : (r : Refusal) → Err r ≡ blamed JobPaper found → fault_in found ≡ job_head_fault s → job_read_of (Err r) ≡ read_job s
+  unfolding job_fault
+  head-refused r e f =
+      refused r e (sym (blamed-fault JobPaper found r e) ∙ stopped _ (job_body_fault s (job_in s)) _ (blamed-fault JobPaper found r e ∙ f) (number-some r.fault))
+
+  pub body-refused : (r : Refusal) (j : Job) → job_head_fault s ≡ 0 → j ≡ job_in s → Err r ≡ blamed JobPaper found → fault_in found ≡ job_body_fault s j
+      → job_read_of (Err r) ≡ read_job s
+  unfolding job_fault
+  body-refused r j z w e f = refused r e (went _ _ _ z (rw (← w) f))
+
+  pub job-read : (x : A) (j : Job) → job_head_fault s ≡ 0 → j ≡ job_in s → Ok x ≡ blamed JobPaper found → fault_in found ≡ job_body_fault s j
+      → job_read_of (Ok j) ≡ read_job s
+  unfolding read_job job_fault job_answer
+  job-read x j z w e f = rw (or_else-go _ _ z, ← w, ← f, blamed-none JobPaper found x e) refl

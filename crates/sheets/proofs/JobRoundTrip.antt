@@ -21,18 +21,15 @@ use Rattle.bits.proofs.SheetLaws.{Holds, holds-pack, pack-holds, fill-pack, leng
 use Rattle.sheets.specs.Limits.{form_bits, op_cells, link_cells, type_cells, job_form, pair_cells, kind_count, max_kind, max_steps, max_time, op_bits, step_bits, time_bits, kind_bits, cost_bits, copies_bits, t_at, wire_at, job_head, link_bits, pair_bits, type_head, type_bits}
 use Rattle.sheets.specs.Columns.{column_at, pair_at, single, double}
 use Rattle.sheets.specs.JobRecord.{JobShape, graph_blank, units_blank, job_fits, job_record_fault}
-use Rattle.sheets.specs.JobSheet.{links_at, types_at, job_end, n_in, e_in, m_in, clock_in, job_of, job_in, job_head_fault, job_body_fault, job_fault, job_answer, read_job, type_fields, graph_fields, unit_fields, job_fields, job_sheet, write_job, job_out}
+use Rattle.sheets.specs.Answers.{Read, Unread, Written, Wrote}
+use Rattle.sheets.specs.JobSheet.{JobRead, links_at, types_at, job_end, n_in, e_in, m_in, clock_in, job_of, job_in, job_head_fault, job_body_fault, job_fault, job_answer, read_job, type_fields, graph_fields, unit_fields, job_fields, job_sheet, write_job, job_out}
 use Rattle.sheets.specs.declared.Job.{Job}
-use Rattle.sheets.specs.declared.JobRead.{JobRead}
-use Rattle.sheets.specs.declared.Reading.TheVariants.{Read, Refused}
-use Rattle.sheets.specs.declared.Written.{Written}
-use Rattle.sheets.specs.declared.Written.TheVariants.{Wrote}
 use Rattle.sheets.proofs.GroupLaws.{whole-none, form-none, none-form, fill_none, none-fill}
 use Rattle.sheets.proofs.ColumnLaws.{total-double, read-single, read-double, read-double', single-read, double-read}
 use Rattle.sheets.proofs.AnswerLaws.{wrote-sheet, sheet-wrote}
 use Rattle.sheets.proofs.JobLaws.{Counts, head-counts, job-head}
 use Rattle.sheets.proofs.RecordLaws.{JobSound, none-record, tables-rules}
-use Rattle.sheets.proofs.JobFieldLaws.{total-type, total-kinds, total_graph, total-job, fit-job}
+use Rattle.sheets.proofs.JobFieldLaws.{total-type, total-kinds, total_graph, total-job, fields-fit, fit-job}
 
 sheet-length : (j : Job) → length (job_sheet j) ≡ bytes_for (job_end j.n j.e j.m)
 unfolding job_sheet
@@ -58,7 +55,7 @@ module _ (j : Job) (t : JobShape j) (z : job_record_fault j ≡ 0) where
   held : Spelt (job_sheet j) j
   unfolding job_sheet Holds
   held =
-      let h = holds-pack (job_fields j) (fit-job j sound t.cost_bound) in
+      let h = holds-pack (job_fields j) (fit-job j (fields-fit j sound) t.cost_bound) in
       record {
         form = h.0;
         ops = h.1.0;
@@ -170,7 +167,7 @@ module _ (j : Job) (t : JobShape j) (z : job_record_fault j ≡ 0) where
 
   sheet-fill : field (job_sheet j) (job_end j.n j.e j.m) (fill (job_end j.n j.e j.m)) ≡ 0
   unfolding job_sheet
-  sheet-fill = subst (λ (k : ℕ). field (pack (job_fields j)) k (fill k) ≡ 0) (total-job j) (fill-pack (job_fields j) (fit-job j sound t.cost_bound))
+  sheet-fill = subst (λ (k : ℕ). field (pack (job_fields j)) k (fill k) ≡ 0) (total-job j) (fill-pack (job_fields j) (fit-job j (fields-fit j sound) t.cost_bound))
 
   head-none : job_head_fault (job_sheet j) ≡ 0
   unfolding job_head_fault job_record_fault Holds
@@ -320,11 +317,7 @@ read-job s j e = go (job_fault s) refl e
   where
     go : (k : ℕ) → job_fault s ≡ k → job_answer (job_fault s) (job_in s) ≡ record { answer = Read; job = j } → (job_fault s ≡ 0) × (j ≡ job_in s)
     go zero q e = (q, sym (ap (λ (r : JobRead). r.job) (rw q at e)))
-    go (suc k) q e =
-        absurd (
-        let w : Refused (suc k) paper_job ≡ Read = ap (λ (r : JobRead). r.answer) (rw q at e) in
-        let c : ◌≡◌ {A = ℕ} 0 1 = cc in
-        omega arith)
+    go (suc k) q e = let w : Unread (suc k) paper_job ≡ Read = ap (λ (r : JobRead). r.answer) (rw q at e) in cc
 
 pub job-written-read : (s : List ℕ) (j : Job) → Bytes s → read_job s ≡ record { answer = Read; job = j } → (job_sheet j ≡ s) × (job_record_fault j ≡ 0)
 job-written-read s j hs e =

@@ -1,24 +1,28 @@
 -- A plan's fields: their widths, that they fit where the record has no fault, and that putting them makes the sheet.
-use Prim.Native.Nat.{ℕ, ◌+◌, ◌*◌, ◌^◌, ◌≤◌, ◌<◌}
-use mathlib.Core.Path.{◌≡◌, sym, subst}
+use Prim.Native.Nat.{ℕ, ◌+◌, ◌*◌, ◌≤◌, ◌<◌}
+use mathlib.Core.Path.{◌≡◌, refl, sym, subst, ◌∙◌}
 use mathlib.Core.Bool.{true}
 use mathlib.Core.List.{List, ◌++◌}
 use native.Mathlib.Omega.{arith}
 use lib.Dec.{lit<}
-use lib.ListN.{length, drop}
+use lib.ListN.{length, take, drop}
+use Rattle.std.specs.Prelude.{Result, Ok}
+use Rattle.basics.specs.Faults.{fault_in, blamed}
+use Rattle.basics.specs.declared.refusals.Fault.{Fault}
+use Rattle.basics.specs.declared.refusals.Paper.{Paper}
 use Rattle.basics.specs.Numbers.{record_broken}
 use Rattle.basics.specs.Tables.{cell, blank}
 use Rattle.basics.proofs.CountLaws.{and_both}
-use Rattle.basics.proofs.FaultLaws.{or_else-none, unless-none}
+use Rattle.basics.proofs.FaultLaws.{or_else-none, unless-none, blamed-none}
 use Rattle.basics.proofs.TableLaws.{within-each}
 use Rattle.bits.specs.Bits.{Bytes, put_field}
-use Rattle.bits.specs.Sheet.{total, bytes_for, fill, pack, many, put_all}
-use Rattle.bits.proofs.SheetLaws.{Fit, total-append, total-many, fit_append, fit-many, put-pack}
-use Rattle.sheets.specs.Limits.{max_ops, max_insts, max_select, max_steps, max_inst, select_bits, step_bits, inst_bits, row_bits}
+use Rattle.bits.specs.Sheet.{Field, total, bytes_for, fill, pack, many, put_all}
+use Rattle.bits.proofs.SheetLaws.{Fit, total-append, total-many, fit_append, fit-many, put-append, put-pack}
+use Rattle.sheets.specs.Limits.{max_ops, max_insts, max_select, max_steps, max_inst, form_bits, plan_form, n_at, k_at, op_bits, inst_count_bits, plan_head, select_bits, step_bits, inst_bits, row_bits}
 use Rattle.sheets.specs.Columns.{single, double}
-use Rattle.sheets.specs.PlanSheet.{plan_end, plan_fits, plan_record_fault, plan_fields, plan_sheet}
+use Rattle.sheets.specs.PlanSheet.{FieldsFit, rows_at, plan_count_fields, plan_end, plan_fits, plan_record_fault, plan_fields, plan_sheet}
 use Rattle.sheets.specs.declared.Plan.{Plan}
-use Rattle.sheets.proofs.ColumnLaws.{total-single, total-double}
+use Rattle.sheets.proofs.ColumnLaws.{total-single, total-double, front_fits, front_singles, front_doubles}
 use Rattle.sheets.proofs.PlanLaws.{none-sizes}
 
 -- ---- a record without fault
@@ -68,21 +72,47 @@ module _ (p : Plan) where
   total-plan =
       omega (arith, total-append (many (single select_bits p.selection) p.k) (many (double step_bits p.starts inst_bits p.insts 0) p.n), total-marks, total-rows)
 
--- ---- values fit, and are put
+-- ---- values fit
 
-module _ (p : Plan) (h : PlanSound p) where
-  pub marks-fit : (i : ℕ) → i < p.k → cell p.selection i < 2 ^ select_bits
-  marks-fit i l = omega (arith, h.marks i l)
+pub fields-fit : (p : Plan) → PlanSound p → FieldsFit p
+fields-fit p h =
+    record {
+      ops = h.ops;
+      insts = h.insts;
+      selection_fit = λ i l. omega (arith, h.marks i l);
+      starts_fit = λ i l. omega (arith, h.starts i l);
+      insts_fit = λ i l. omega (arith, h.rows i l);
+    }
 
-  pub starts_fit : (i : ℕ) → i < p.n → cell p.starts (0 + i) < 2 ^ step_bits
-  starts_fit i l =
+-- as the writer learns it
+pub fields_fit : (p : Plan) (who : Paper) (found : Result (Unit {0}) Fault) → fault_in found ≡ plan_record_fault p → Ok tt ≡ blamed who found → FieldsFit p
+fields_fit p who found f e = fields-fit p (none-plan p (sym f ∙ blamed-none who found tt e))
+
+-- ---- what is put
+
+-- sizes, then selection, then rows, each behind the one before
+pub plan-put : (p : Plan) (s a b d t u : List ℕ) → p.k ≤ length p.selection → p.n ≤ length p.starts
+    → a ≡ put_field s 0 form_bits plan_form → b ≡ put_field a n_at op_bits p.n → d ≡ put_field b k_at inst_count_bits p.k
+    → t ≡ put_all d plan_head (many (single select_bits (take p.k p.selection)) (length (take p.k p.selection)))
+    → u ≡ put_all t (rows_at p.k) (many (double step_bits (take p.n p.starts) inst_bits (take p.n p.insts) 0) (length (take p.n p.starts)))
+    → u ≡ put_all s 0 (plan_fields p)
+unfolding put_all
+plan-put p s a b d t u k n x y z q r =
+    let marks : List Field = many (single select_bits p.selection) p.k in
+    let rows : List Field = many (double step_bits p.starts inst_bits p.insts 0) p.n in
+    r ∙ rw (q, z, y, x, front_singles select_bits p.selection p.k k, front_doubles step_bits p.starts inst_bits p.insts p.n n)
+    (rw (put-append (put_all s 0 (plan_count_fields p.n p.k)) plan_head marks rows, total-marks p) refl)
+
+pub ruleset plan_put_laws = (front_fits, plan-put)
+
+-- ---- the sheet
+
+module _ (p : Plan) (h : FieldsFit p) where
+  row-fit : (i : ℕ) → i < p.n → Fit (double step_bits p.starts inst_bits p.insts 0 i)
+  unfolding Fit
+  row-fit i l =
       let e : 0 + i ≡ i = omega arith in
-      rw e (omega (arith, h.starts i l))
-
-  pub rows_fit : (i : ℕ) → i < p.n → cell p.insts (0 + i) < 2 ^ inst_bits
-  rows_fit i l =
-      let e : 0 + i ≡ i = omega arith in
-      rw e (omega (arith, h.rows i l))
+      rw e (h.starts_fit i l, (h.insts_fit i l, tt))
 
   pub fit-plan : Fit (plan_fields p)
   unfolding Fit
@@ -93,8 +123,8 @@ module _ (p : Plan) (h : PlanSound p) where
       (
         omega (arith, h.insts),
         fit_append (many (single select_bits p.selection) p.k) (many (double step_bits p.starts inst_bits p.insts 0) p.n)
-            (fit-many (single select_bits p.selection) p.k (λ i l. (marks-fit i l, tt)))
-            (fit-many (double step_bits p.starts inst_bits p.insts 0) p.n (λ i l. (starts_fit i l, (rows_fit i l, tt)))),
+            (fit-many (single select_bits p.selection) p.k (λ i l. (h.selection_fit i l, tt)))
+            (fit-many (double step_bits p.starts inst_bits p.insts 0) p.n row-fit),
       ),
     ),
   )

@@ -20,19 +20,16 @@ use Rattle.bits.proofs.FieldLaws.{field_lt}
 use Rattle.bits.proofs.SheetLaws.{Holds, holds-pack, pack-holds, fill-pack, length-pack, holds-append, append-holds}
 use Rattle.sheets.specs.Limits.{op_cells, inst_cells, plan_form, max_ops, max_insts, max_select, max_steps, max_inst, select_bits, step_bits, inst_bits, row_bits, plan_head}
 use Rattle.sheets.specs.Columns.{column_at, single, double}
-use Rattle.sheets.specs.PlanSheet.{PlanShape, rows_at, plan_end, ops_in, insts_in, plan_of, plan_in, plan_counts_fault, plan_head_fault, plan_body_fault, plan_fault, no_plan, plan_answer, read_plan, plan_fits, plan_record_fault, plan_fields, plan_sheet, write_plan, plan_out}
+use Rattle.sheets.specs.Answers.{Read, Unread, Written, Wrote}
+use Rattle.sheets.specs.PlanSheet.{PlanRead, PlanShape, rows_at, plan_end, ops_in, insts_in, plan_of, plan_in, plan_counts_fault, plan_head_fault, plan_body_fault, plan_fault, no_plan, plan_answer, read_plan, plan_fits, plan_record_fault, plan_fields, plan_sheet, write_plan, plan_out}
 use Rattle.sheets.specs.declared.Plan.{Plan}
-use Rattle.sheets.specs.declared.PlanRead.{PlanRead}
-use Rattle.sheets.specs.declared.Reading.TheVariants.{Read, Refused}
-use Rattle.sheets.specs.declared.Written.{Written}
-use Rattle.sheets.specs.declared.Written.TheVariants.{Wrote}
 use Rattle.sheets.proofs.GroupLaws.{whole-none, form-none, none-form, fill_none, none-fill}
 use Rattle.sheets.proofs.ColumnLaws.{read-single, read-double, read-double', single-read, double-read}
 use Rattle.sheets.proofs.AnswerLaws.{wrote-sheet, sheet-wrote}
 use Rattle.sheets.proofs.PlanLaws.{head-sizes}
-use Rattle.sheets.proofs.PlanFieldLaws.{PlanSound, none-plan, total-marks, total-plan, fit-plan}
+use Rattle.sheets.proofs.PlanFieldLaws.{PlanSound, none-plan, total-marks, total-plan, fields-fit, fit-plan}
 
-sheet-length : (p : Plan) → length (plan_sheet p) ≡ bytes_for (plan_end p.n p.k)
+pub sheet-length : (p : Plan) → length (plan_sheet p) ≡ bytes_for (plan_end p.n p.k)
 unfolding plan_sheet
 sheet-length p = length-pack (plan_fields p) ∙ ap (λ (k : ℕ). bytes_for k) (total-plan p)
 
@@ -44,7 +41,7 @@ module _ (p : Plan) (t : PlanShape p) (z : plan_record_fault p ≡ 0) where
 
   held : Holds (plan_sheet p) 0 (plan_fields p)
   unfolding plan_sheet
-  held = holds-pack (plan_fields p) (fit-plan p sound)
+  held = holds-pack (plan_fields p) (fit-plan p (fields-fit p sound))
 
   -- selection and rows, each where it starts
   tables : Holds (plan_sheet p) plan_head (many (single select_bits p.selection) p.k)
@@ -71,7 +68,7 @@ module _ (p : Plan) (t : PlanShape p) (z : plan_record_fault p ≡ 0) where
 
   sheet-fill : field (plan_sheet p) (plan_end p.n p.k) (fill (plan_end p.n p.k)) ≡ 0
   unfolding plan_sheet
-  sheet-fill = subst (λ (k : ℕ). field (pack (plan_fields p)) k (fill k) ≡ 0) (total-plan p) (fill-pack (plan_fields p) (fit-plan p sound))
+  sheet-fill = subst (λ (k : ℕ). field (pack (plan_fields p)) k (fill k) ≡ 0) (total-plan p) (fill-pack (plan_fields p) (fit-plan p (fields-fit p sound)))
 
   head-none : plan_head_fault (plan_sheet p) ≡ 0
   unfolding plan_head_fault plan_record_fault Holds
@@ -155,11 +152,7 @@ read-plan s p e = go (plan_fault s) refl e
   where
     go : (k : ℕ) → plan_fault s ≡ k → plan_answer (plan_fault s) (plan_in s) ≡ record { answer = Read; plan = p } → (plan_fault s ≡ 0) × (p ≡ plan_in s)
     go zero q e = (q, sym (ap (λ (r : PlanRead). r.plan) (rw q at e)))
-    go (suc k) q e =
-        absurd (
-        let w : Refused (suc k) paper_plan ≡ Read = ap (λ (r : PlanRead). r.answer) (rw q at e) in
-        let c : ◌≡◌ {A = ℕ} 0 1 = cc in
-        omega arith)
+    go (suc k) q e = let w : Unread (suc k) paper_plan ≡ Read = ap (λ (r : PlanRead). r.answer) (rw q at e) in cc
 
 pub plan-written-read : (s : List ℕ) (p : Plan) → Bytes s → read_plan s ≡ record { answer = Read; plan = p } → (plan_sheet p ≡ s) × (plan_record_fault p ≡ 0)
 plan-written-read s p hs e =

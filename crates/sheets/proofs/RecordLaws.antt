@@ -13,8 +13,9 @@ use Rattle.basics.specs.Counting.{all_to, sum_to}
 use Rattle.basics.specs.Faults.{◌or_else◌, first}
 use Rattle.basics.specs.Tables.{cell, blank}
 use Rattle.basics.proofs.CountLaws.{and_both, either, all_to-each}
-use Rattle.basics.proofs.FaultLaws.{or_else-none, or_else-go, unless-none, first-none, first_cong}
+use Rattle.basics.proofs.FaultLaws.{fault_laws, or_else-none, or_else-go, unless-none, first-none, first_cong}
 use Rattle.basics.proofs.TableLaws.{within-each}
+use Rattle.bits.specs.Sheet.{bytes_for}
 use Rattle.sheets.specs.Limits.{max_copies, max_insts, kind_count, max_kind, max_steps, max_time, link_bits, type_bits}
 use Rattle.sheets.specs.JobRecord.{ascends, link_fault, pair_ok, pair_sound, copies_ok, type_fault, graph_blank, units_blank, job_fits, job_rules_fault, job_record_fault}
 use Rattle.sheets.specs.JobSheet.{links_at, types_at, job_end, link_group, type_group, job_tables_fault}
@@ -40,8 +41,10 @@ rising from to e h i (suc k) l q =
     elim (dec_lt i (suc k)) [
       | yes w ↦
           let r = rising from to e h i k (omega arith) (omega arith) in
-          ⊎_elim (λ a. omega (arith, r, ltb-true (cell from k) (cell from (suc k)) a))
-          (λ a. omega (arith, r, eqb-true (cell from k) (cell from (suc k)) (and_both (eqb (cell from k) (cell from (suc k))) (ltb (cell to k) (cell to (suc k))) a).0))
+          ⊎_elim (λ (a : ltb (cell from k) (cell from (suc k)) ≡ true). omega (arith, r, ltb-true (cell from k) (cell from (suc k)) a))
+          (λ (a : (eqb (cell from k) (cell from (suc k)) && ltb (cell to k) (cell to (suc k))) ≡ true).
+          let b = and_both (eqb (cell from k) (cell from (suc k))) (ltb (cell to k) (cell to (suc k))) a in
+          omega (arith, r, eqb-true (cell from k) (cell from (suc k)) b.0))
           (either _ _ (h (suc k) q))
       | no w ↦ let z : i ≡ suc k = omega arith in rw z (omega arith)
     ]
@@ -170,3 +173,9 @@ tables-rules j bytes h =
     (λ i q. or_else-go _ _ (whole-none bytes (links_at j.n + link_bits * (i + 1)) (omega arith))))
     (first_cong (type_group bytes (types_at j.n j.e) j.copies j.times j.intervals) (type_fault j.copies j.times j.intervals) j.m
     (λ y q. or_else-go _ _ (whole-none bytes (types_at j.n j.e + type_bits * (y + 1)) (omega arith))))
+
+-- its own sheet has room
+pub own_tables : (j : Job) → job_tables_fault (bytes_for (job_end j.n j.e j.m)) j ≡ job_rules_fault j
+own_tables j = tables-rules j (bytes_for (job_end j.n j.e j.m)) (omega arith)
+
+pub ruleset record_laws = (fault_laws, own_tables)

@@ -11,11 +11,11 @@ use Rattle.bits.specs.Bits.{bit, field, bytes_of}
 use Rattle.bits.specs.Sheet.{total, number, pack, many}
 use Rattle.sheets.specs.Groups.{runs_out, form_fault, fill_fault}
 use Rattle.sheets.specs.JobRecord.{job_counts_fault, ascends, link_fault, pair_sound, type_fault}
+use Rattle.sheets.specs.Answers.{Read}
 use Rattle.sheets.specs.JobSheet.{job_of, job_head_fault, link_group, type_group, job_tables_fault, job_body_fault, job_fault, job_answer, read_job, type_fields, job_sheet}
 use Rattle.sheets.specs.PlanSheet.{plan_of, plan_counts_fault, plan_head_fault, plan_body_fault, plan_fault, plan_answer, read_plan, plan_sheet}
 use Rattle.sheets.specs.declared.Job.{Job}
 use Rattle.sheets.specs.declared.Plan.{Plan}
-use Rattle.sheets.specs.declared.Reading.TheVariants.{Read}
 
 -- ---- no operations, no types, T 0, clock 1
 

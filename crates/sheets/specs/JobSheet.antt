@@ -1,20 +1,18 @@
 -- The job sheet: `job_in` is the record that its bytes spell, `job_fault` its first fault, `read_job` the reader's answer;
 -- `job_sheet` is a record's sheet, `write_job` the writer's answer and `job_out` what it leaves.
-use Rattle.std.specs.Prelude.{ℕ, zero, suc, ◌+◌, ◌*◌, ◌^◌, ◌<◌, List, [], ◌∷◌, ◌++◌, length, replicate}
-use Rattle.basics.specs.Faults.{◌or_else◌, first}
+use Rattle.std.specs.Prelude.{ℕ, zero, suc, ◌+◌, ◌*◌, ◌^◌, ◌<◌, ◌≤◌, List, [], ◌∷◌, ◌++◌, length, replicate, Result, Ok, Err}
+use Rattle.basics.specs.Faults.{◌or_else◌, first, number_of, paper_of}
 use Rattle.basics.specs.Numbers.{paper_job}
 use Rattle.basics.specs.Tables.{cell, cells}
+use Rattle.basics.specs.declared.refusals.Refusal.{Refusal}
 use Rattle.bits.specs.Bits.{field}
 use Rattle.bits.specs.Sheet.{Field, of, bytes_for, pack, many}
-use Rattle.sheets.specs.Limits.{op_cells, link_cells, type_cells, job_form, pair_cells, kind_count, form_bits, op_bits, link_count_bits, type_count_bits, step_bits, time_bits, kind_bits, cost_bits, copies_bits, n_at, e_at, m_at, t_at, clock_at, wire_at, job_head, link_bits, type_head, type_bits}
-use Rattle.sheets.specs.Answers.{written, output}
+use Rattle.sheets.specs.Limits.{max_ops, max_links, max_types, max_steps, max_time, op_cells, link_cells, type_cells, job_form, pair_cells, kind_count, form_bits, op_bits, link_count_bits, type_count_bits, step_bits, time_bits, kind_bits, cost_bits, copies_bits, n_at, e_at, m_at, t_at, clock_at, wire_at, job_head, link_bits, type_head, type_bits}
+use Rattle.sheets.specs.Answers.{Reading, Read, Unread, Written, written, output}
 use Rattle.sheets.specs.Groups.{runs_out, form_fault, fill_fault}
 use Rattle.sheets.specs.Columns.{column_at, pair_at, single, double}
 use Rattle.sheets.specs.JobRecord.{job_counts_fault, link_fault, type_fault, job_record_fault}
 use Rattle.sheets.specs.declared.Job.{Job}
-use Rattle.sheets.specs.declared.JobRead.{JobRead}
-use Rattle.sheets.specs.declared.Reading.TheVariants.{Read, Refused}
-use Rattle.sheets.specs.declared.Written.{Written}
 
 -- ---- where each group starts
 
@@ -93,7 +91,11 @@ job_body_fault s j =
 unfoldable pub job_fault : List ℕ → ℕ
 job_fault s = job_head_fault s or_else job_body_fault s (job_in s)
 
--- ---- the reader
+-- ---- the reader: its answer, and the record, of zeros where the sheet is refused
+
+pub record JobRead : Type 0 where
+  pub answer : Reading
+  pub job : Job
 
 unfoldable pub no_job : Job
 no_job =
@@ -114,7 +116,12 @@ no_job =
     }
 
 abbrev pub job_refused : ℕ → JobRead
-job_refused fault = record { answer = Refused fault paper_job; job = no_job }
+job_refused fault = record { answer = Unread fault paper_job; job = no_job }
+
+-- the code's result
+abbrev pub job_read_of : Result Job Refusal → JobRead
+job_read_of (Ok x) = record { answer = Read; job = x }
+job_read_of (Err r) = record { answer = Unread (number_of r.fault) (paper_of r.paper); job = no_job }
 
 -- the answer where the first fault is the one given and the bytes spell j
 unfoldable pub job_answer : ℕ → Job → JobRead
@@ -161,8 +168,17 @@ job_out j before = output (write_job j (length before)) (job_sheet j) before
 
 -- ---- inside the writer
 
--- what is asked of types before they are put
-pub record TypesFit (copies times intervals : List ℕ) (m : ℕ) : Type 0 where
-  pub copies_fit : (y : ℕ) → y < m → cell copies y < 2 ^ copies_bits
-  pub times_fit : (c : ℕ) → c < kind_count * m → cell times c < 2 ^ time_bits
-  pub intervals_fit : (c : ℕ) → c < kind_count * m → cell intervals c < 2 ^ time_bits
+-- what is asked of a job before its fields are put: each number fits its field
+pub record FieldsFit (j : Job) : Type 0 where
+  pub ops : j.n ≤ max_ops
+  pub links : j.e ≤ max_links
+  pub types : j.m ≤ max_types
+  pub steps : j.t ≤ max_steps
+  pub clock : j.clock ≤ max_time
+  pub wire : j.wire ≤ max_time
+  pub kinds_fit : (i : ℕ) → i < j.n → cell j.kinds i < 2 ^ kind_bits
+  pub from_fit : (i : ℕ) → i < j.e → cell j.from i < 2 ^ op_bits
+  pub to_fit : (i : ℕ) → i < j.e → cell j.to i < 2 ^ op_bits
+  pub copies_fit : (y : ℕ) → y < j.m → cell j.copies y < 2 ^ copies_bits
+  pub times_fit : (c : ℕ) → c < kind_count * j.m → cell j.times c < 2 ^ time_bits
+  pub intervals_fit : (c : ℕ) → c < kind_count * j.m → cell j.intervals c < 2 ^ time_bits

@@ -1,19 +1,17 @@
 -- The plan sheet: `plan_in` is the record that its bytes spell, `plan_fault` its first fault, `read_plan` the reader's answer;
 -- `plan_sheet` is a record's sheet, `write_plan` the writer's answer and `plan_out` what it leaves.
-use Rattle.std.specs.Prelude.{ℕ, zero, suc, ◌+◌, ◌*◌, ◌≡◌, Bool, ◌&&◌, List, [], ◌∷◌, ◌++◌, leb, length, replicate}
-use Rattle.basics.specs.Faults.{◌or_else◌, fault_unless}
+use Rattle.std.specs.Prelude.{ℕ, zero, suc, ◌+◌, ◌*◌, ◌^◌, ◌≡◌, ◌<◌, ◌≤◌, Bool, ◌&&◌, List, [], ◌∷◌, ◌++◌, leb, length, replicate, Result, Ok, Err}
+use Rattle.basics.specs.Faults.{◌or_else◌, fault_unless, number_of, paper_of}
 use Rattle.basics.specs.Numbers.{outside_limit, record_broken, paper_plan}
-use Rattle.basics.specs.Tables.{cells, within, blank}
+use Rattle.basics.specs.Tables.{cell, cells, within, blank}
+use Rattle.basics.specs.declared.refusals.Refusal.{Refusal}
 use Rattle.bits.specs.Bits.{field}
 use Rattle.bits.specs.Sheet.{Field, of, bytes_for, pack, many}
 use Rattle.sheets.specs.Limits.{op_cells, inst_cells, plan_form, max_ops, max_insts, max_inst, max_steps, max_select, form_bits, op_bits, inst_count_bits, step_bits, inst_bits, select_bits, n_at, k_at, plan_head, row_bits}
-use Rattle.sheets.specs.Answers.{written, output}
+use Rattle.sheets.specs.Answers.{Reading, Read, Unread, Written, written, output}
 use Rattle.sheets.specs.Groups.{runs_out, form_fault, fill_fault}
 use Rattle.sheets.specs.Columns.{column_at, single, double}
 use Rattle.sheets.specs.declared.Plan.{Plan}
-use Rattle.sheets.specs.declared.PlanRead.{PlanRead}
-use Rattle.sheets.specs.declared.Reading.TheVariants.{Read, Refused}
-use Rattle.sheets.specs.declared.Written.{Written}
 
 -- what the record's types say: the sizes of its tables
 pub record PlanShape (p : Plan) : Type 0 where
@@ -69,14 +67,23 @@ plan_body_fault s p = runs_out (length s) (plan_end p.n p.k) or_else fill_fault 
 unfoldable pub plan_fault : List ℕ → ℕ
 plan_fault s = plan_head_fault s or_else plan_body_fault s (plan_in s)
 
--- ---- the reader
+-- ---- the reader: its answer, and the record, of zeros where the sheet is refused
+
+pub record PlanRead : Type 0 where
+  pub answer : Reading
+  pub plan : Plan
 
 unfoldable pub no_plan : Plan
 no_plan =
     record { n = 0; k = 0; selection = replicate inst_cells 0; starts = replicate op_cells 0; insts = replicate op_cells 0 }
 
 abbrev pub plan_refused : ℕ → PlanRead
-plan_refused fault = record { answer = Refused fault paper_plan; plan = no_plan }
+plan_refused fault = record { answer = Unread fault paper_plan; plan = no_plan }
+
+-- the code's result
+abbrev pub plan_read_of : Result Plan Refusal → PlanRead
+plan_read_of (Ok x) = record { answer = Read; plan = x }
+plan_read_of (Err r) = record { answer = Unread (number_of r.fault) (paper_of r.paper); plan = no_plan }
 
 -- the answer where the first fault is the one given and the bytes spell p
 unfoldable pub plan_answer : ℕ → Plan → PlanRead
@@ -117,3 +124,13 @@ write_plan p room = written (plan_record_fault p) paper_plan (bytes_for (plan_en
 -- the output's bytes after it, where they were `before`
 unfoldable pub plan_out : Plan → List ℕ → List ℕ
 plan_out p before = output (write_plan p (length before)) (plan_sheet p) before
+
+-- ---- inside the writer
+
+-- what is asked of a plan before its fields are put: each number fits its field
+pub record FieldsFit (p : Plan) : Type 0 where
+  pub ops : p.n ≤ max_ops
+  pub insts : p.k ≤ max_insts
+  pub selection_fit : (i : ℕ) → i < p.k → cell p.selection i < 2 ^ select_bits
+  pub starts_fit : (i : ℕ) → i < p.n → cell p.starts i < 2 ^ step_bits
+  pub insts_fit : (i : ℕ) → i < p.n → cell p.insts i < 2 ^ inst_bits

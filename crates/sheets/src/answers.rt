@@ -1,38 +1,33 @@
-// What each case of an answer says in numbers.
+// What each case of an answer says in numbers: a function for each and no `From`, since a length and a cost are both a number, and the
+// type does not tell which.
 ghost use Rattle.std.specs.Prelude.{◌≡◌};
-ghost use Rattle.sheets.specs.Answers.{reading_says, written_says};
+ghost use Rattle.sheets.specs.Answers.{reading_of, reading_says, written_of, written_says};
 
-use crate::{Reading, Written};
-use basics::Answer;
+use basics::{Answer, Outcome, Refusal};
 
-pub fn reading_says(answer: Reading) -> Answer
-    ensures { result ≡ reading_says answer }
-{
-    let Reading::Refused { number, paper } = answer else {
-        return Answer {
-            outcome: basics::READ,
-            number: 0,
-            paper: 0,
-            cost: 0,
-            visits: 0,
-            length: 0,
-        };
-    };
-    basics::refused(number, paper)
-}
-
-pub fn written_says(answer: Written) -> Answer
-    ensures { result ≡ written_says answer }
+/// What a reader answers, beside its record.
+pub fn reading_says(answer: Result<(), Refusal>) -> Answer
+    ensures { result ≡ reading_says (reading_of answer) }
 {
     match answer {
-        Written::Wrote { length } => Answer {
-            outcome: basics::WRITTEN,
-            number: 0,
-            paper: 0,
-            cost: 0,
-            visits: 0,
-            length,
+        Ok(()) => Answer {
+            outcome: Outcome::Read as u32,
+            ..Answer::default()
         },
-        Written::Refused { number, paper } => basics::refused(number, paper),
+        Err(refusal) => Answer::from(refusal),
+    }
+}
+
+/// What a writer answers.
+pub fn written_says(answer: Result<u32, Refusal>) -> Answer
+    ensures { result ≡ written_says (written_of answer) }
+{
+    match answer {
+        Ok(length) => Answer {
+            outcome: Outcome::Written as u32,
+            length,
+            ..Answer::default()
+        },
+        Err(refusal) => Answer::from(refusal),
     }
 }

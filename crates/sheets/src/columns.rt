@@ -1,122 +1,64 @@
 // Tables read out of a sheet's fields, and put into them.
 ghost use Rattle.std.specs.Prelude.{◌≡◌, ℕ, ◌+◌, ◌*◌, ◌^◌, ◌≤◌, ◌<◌, length};
-ghost use Rattle.basics.specs.Tables.{cell, filled, cells};
+ghost use Rattle.basics.specs.Tables.{cell, cells};
 ghost use Rattle.bits.specs.Sheet.{many, put_all};
 ghost use Rattle.sheets.specs.Columns.{InReach, column_at, pair_at, single, double};
-ghost use Rattle.sheets.specs.Limits.{type_cells, inst_cells, op_cells, link_cells, pair_cells};
+ghost use Rattle.sheets.specs.Limits.{pair_cells};
 
 use crate::limits::*;
 
-// Reads `count` fields of `width` bits into the first cells of a table: the first at bit `at`, each `stride` bits behind
-// the one before.
-pub fn fill_column(
+// Where a column begins, and how many cells it has, is asked in each contract: they are numbers made of a sheet's counts.
+/// A table of `count` fields of `width` bits, the first at bit `at`, each `stride` bits behind the one before; cells that
+/// are not read are 0.
+pub fn column<const N: usize>(
     s: &[u8],
     at: usize,
     stride: usize,
     width: usize,
     count: usize,
-    table: &mut [u16],
-)
-    requires { InReach at stride width × (count ≤ 64) × (count ≤ length table.old) }
-    ensures { table.new ≡ filled table.old (column_at s.now at stride width) count }
+) -> [u16; N]
+    requires reach { InReach at stride width }
+    requires few { count ≤ 64 }
+    requires small { N < 2 ^ 16 }
+    ensures { result ≡ cells (column_at s.now at stride width) count N }
 {
-    let mut i: usize = 0;
-    while i < count {
-        table[i] = bits::field(s, at + stride * i, width) as u16;
-        i += 1;
-    }
+    basics::cells(count, |i| bits::field(s, at + stride * i, width) as u16)
 }
 
-// The same as a table with a cell for each type, of which those not read are 0.
-pub fn type_column(
-    s: &[u8],
-    at: usize,
-    stride: usize,
-    width: usize,
-    count: usize,
-) -> [u16; TYPE_CELLS]
-    requires { InReach at stride width × (count ≤ type_cells) }
-    ensures { result ≡ cells (column_at s.now at stride width) count type_cells }
-{
-    let mut table = [0u16; TYPE_CELLS];
-    fill_column(s, at, stride, width, count, &mut table);
-    table
-}
-
-// The same as a table with a cell for each instance.
-pub fn inst_column(
-    s: &[u8],
-    at: usize,
-    stride: usize,
-    width: usize,
-    count: usize,
-) -> [u16; INST_CELLS]
-    requires { InReach at stride width × (count ≤ inst_cells) }
-    ensures { result ≡ cells (column_at s.now at stride width) count inst_cells }
-{
-    let mut table = [0u16; INST_CELLS];
-    fill_column(s, at, stride, width, count, &mut table);
-    table
-}
-
-// The same as a table with a cell for each operation.
-pub fn op_column(s: &[u8], at: usize, stride: usize, width: usize, count: usize) -> [u16; OP_CELLS]
-    requires { InReach at stride width × (count ≤ op_cells) }
-    ensures { result ≡ cells (column_at s.now at stride width) count op_cells }
-{
-    let mut table = [0u16; OP_CELLS];
-    fill_column(s, at, stride, width, count, &mut table);
-    table
-}
-
-// The same as a table with a cell for each link.
-pub fn link_column(
-    s: &[u8],
-    at: usize,
-    stride: usize,
-    width: usize,
-    count: usize,
-) -> [u16; LINK_CELLS]
-    requires { InReach at stride width × (count ≤ link_cells) }
-    ensures { result ≡ cells (column_at s.now at stride width) count link_cells }
-{
-    let mut table = [0u16; LINK_CELLS];
-    fill_column(s, at, stride, width, count, &mut table);
-    table
-}
-
-// Times or intervals: cell c is that of kind c % KIND_COUNT at type c / KIND_COUNT, and the first stands at bit `at`.
+// No `column`: its fields do not stand at one stride.
+/// Times or intervals: cell c is that of kind c % KIND_COUNT at type c / KIND_COUNT, and the first stands at bit `at`.
 pub fn pair_column(s: &[u8], at: usize, count: usize) -> [u16; PAIR_CELLS]
-    requires { (at < 2 ^ 24) × (count ≤ pair_cells) }
+    requires near { at < 2 ^ 24 }
+    requires few { count ≤ pair_cells }
     ensures { result ≡ cells (pair_at s.now at) count pair_cells }
 {
-    let mut table = [0u16; PAIR_CELLS];
-    let mut c: usize = 0;
-    while c < count {
-        table[c] = bits::field(
+    basics::cells(count, |c| {
+        bits::field(
             s,
             at + TYPE_BITS * (c / KIND_COUNT) + PAIR_BITS * (c % KIND_COUNT),
             TIME_BITS,
-        ) as u16;
-        c += 1;
-    }
-    table
+        ) as u16
+    })
 }
 
-// Puts the first `count` cells of a table from bit `at` on, `width` bits each.
-pub fn put_singles(out: &mut [u8], at: usize, width: usize, table: &[u16], count: usize)
-    requires { (at < 2 ^ 24) × (width ≤ 16) × (count ≤ 64) × (at + width * count ≤ 8 * length out.old) × ((i : ℕ) → i < count → cell table.now i < 2 ^ width) }
-    ensures { out.new ≡ put_all out.old at (many (single width table.now) count) }
+/// Puts a table from bit `at` on, `width` bits for each cell.
+#[tactic(auto, using(crate::proofs::ColumnLaws::put_laws))]
+pub fn put_singles(out: &mut [u8], at: usize, width: usize, table: &[u16])
+    requires near { at < 2 ^ 24 }
+    requires narrow { width ≤ 16 }
+    requires few { length table.now ≤ 64 }
+    requires room { at + width * length table.now ≤ 8 * length out.old }
+    requires fit { (i : ℕ) → i < length table.now → cell table.now i < 2 ^ width }
+    ensures { out.new ≡ put_all out.old at (many (single width table.now) (length table.now)) }
 {
-    let mut i: usize = 0;
-    while i < count {
-        bits::put(out, at + width * i, width, basics::cell(table, i) as u32);
-        i += 1;
+    for i in 0..table.len() {
+        bits::put(out, at + width * i, width, table[i] as u32);
     }
 }
 
-// Puts `count` cells of two tables from their cell `first` on, one of each after the other, from bit `at` on: `width` bits
-// for the one, `width2` for the other.
+// One function for one table or for two would be handed each cell's fields by a closure, which is no plainer.
+/// Puts two tables from bit `at` on, a cell of each after the other: `width` bits for the one, `width2` for the other.
+#[tactic(auto, using(crate::proofs::ColumnLaws::put_laws))]
 pub fn put_doubles(
     out: &mut [u8],
     at: usize,
@@ -124,23 +66,20 @@ pub fn put_doubles(
     table: &[u16],
     width2: usize,
     table2: &[u16],
-    first: usize,
-    count: usize,
 )
-    requires { (at < 2 ^ 24) × (width ≤ 16) × (width2 ≤ 16) × (first < 2 ^ 16) × (count ≤ 64) × (at + (width + width2) * count ≤ 8 * length out.old)
-        × ((i : ℕ) → i < count → cell table.now (first + i) < 2 ^ width) × ((i : ℕ) → i < count → cell table2.now (first + i) < 2 ^ width2) }
-    ensures { out.new ≡ put_all out.old at (many (double width table.now width2 table2.now first) count) }
+    requires near { at < 2 ^ 24 }
+    requires narrow { width ≤ 16 }
+    requires narrow2 { width2 ≤ 16 }
+    requires few { length table.now ≤ 64 }
+    requires same { length table2.now ≡ length table.now }
+    requires room { at + (width + width2) * length table.now ≤ 8 * length out.old }
+    requires fit { (i : ℕ) → i < length table.now → cell table.now i < 2 ^ width }
+    requires fit2 { (i : ℕ) → i < length table.now → cell table2.now i < 2 ^ width2 }
+    ensures { out.new ≡ put_all out.old at (many (double width table.now width2 table2.now 0) (length table.now)) }
 {
-    let mut i: usize = 0;
-    while i < count {
+    for i in 0..table.len() {
         let here = at + (width + width2) * i;
-        bits::put(out, here, width, basics::cell(table, first + i) as u32);
-        bits::put(
-            out,
-            here + width,
-            width2,
-            basics::cell(table2, first + i) as u32,
-        );
-        i += 1;
+        bits::put(out, here, width, table[i] as u32);
+        bits::put(out, here + width, width2, table2[i] as u32);
     }
 }

@@ -1,4 +1,4 @@
-// Job and plan sheets: the records, and what a reader or a writer answers.
+// Job and plan sheets: the records, and their readers and writers.
 #![tactic(auto)]
 
 pub mod answers; // what each case of an answer says in numbers
@@ -8,7 +8,8 @@ pub mod columns; // tables read out of fields, and put into them
 pub mod jobs; // the job sheet: read_job, write_job
 pub mod plans; // the plan sheet: read_plan, write_plan
 
-// A job. Cells that its counts do not use are zero.
+// Numbers, and tables of full size beside their counts, as in include/tolmupung.h.
+/// A job. Cells that its counts do not use are zero.
 #[repr(C)]
 #[derive(Clone, Copy)]
 pub struct Job {
@@ -27,7 +28,7 @@ pub struct Job {
     pub intervals: [u16; limits::PAIR_CELLS], // likewise
 }
 
-// A plan. Cells that its counts do not use are zero.
+/// A plan. Cells that its counts do not use are zero.
 #[repr(C)]
 #[derive(Clone, Copy)]
 pub struct Plan {
@@ -36,30 +37,4 @@ pub struct Plan {
     pub selection: [u16; limits::INST_CELLS], // of each instance: 1 selected, 0 not
     pub starts: [u16; limits::OP_CELLS], // of each row
     pub insts: [u16; limits::OP_CELLS], // of each row
-}
-
-// A reader's answer, which stands beside the record.
-#[derive(Clone, Copy)]
-pub enum Reading {
-    Read,
-    Refused { number: u32, paper: u32 },
-}
-
-#[derive(Clone, Copy)]
-pub struct JobRead {
-    pub answer: Reading,
-    pub job: Job,
-}
-
-#[derive(Clone, Copy)]
-pub struct PlanRead {
-    pub answer: Reading,
-    pub plan: Plan,
-}
-
-// A writer's answer.
-#[derive(Clone, Copy)]
-pub enum Written {
-    Wrote { length: u32 },
-    Refused { number: u32, paper: u32 },
 }

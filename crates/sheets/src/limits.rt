@@ -6,19 +6,25 @@ pub const MAX_LINKS: u16 = 64;
 
 pub const MAX_TYPES: u16 = 8;
 
-pub const MAX_COPIES: u16 = 7; // of one type
+/// Of one type.
+pub const MAX_COPIES: u16 = 7;
 
-pub const MAX_INSTS: u16 = 16; // copies of all types
+/// Copies of all types.
+pub const MAX_INSTS: u16 = 16;
 
-pub const MAX_INST: u16 = 15; // the number of an instance in a row
+/// The number of an instance in a row.
+pub const MAX_INST: u16 = 15;
 
 pub const MAX_KIND: u16 = 7;
 
-pub const MAX_STEPS: u16 = 31; // a deadline, a start
+/// A deadline, a start.
+pub const MAX_STEPS: u16 = 31;
 
-pub const MAX_TIME: u16 = 1023; // clock, wire, times and intervals, in ns
+/// Clock, wire, times and intervals, in ns.
+pub const MAX_TIME: u16 = 1023;
 
-pub const MAX_SELECT: u16 = 1; // a selection's cell
+/// A selection's cell.
+pub const MAX_SELECT: u16 = 1;
 
 // Cells of a record's tables.
 pub const KIND_COUNT: usize = 8;
@@ -31,12 +37,14 @@ pub const TYPE_CELLS: usize = 8;
 
 pub const INST_CELLS: usize = 16;
 
-pub const PAIR_CELLS: usize = TYPE_CELLS * KIND_COUNT; // kind k of type y: cell 8 * y + k
+/// Kind k of type y: cell 8 * y + k.
+pub const PAIR_CELLS: usize = TYPE_CELLS * KIND_COUNT;
 
 // Widths.
 pub const FORM_BITS: usize = 4;
 
-pub const OP_BITS: usize = 5; // N, and an operation's number
+/// N, and an operation's number.
+pub const OP_BITS: usize = 5;
 
 pub const LINK_COUNT_BITS: usize = 7;
 
@@ -44,7 +52,8 @@ pub const TYPE_COUNT_BITS: usize = 4;
 
 pub const INST_COUNT_BITS: usize = 5;
 
-pub const STEP_BITS: usize = 5; // T, and a start
+/// T, and a start.
+pub const STEP_BITS: usize = 5;
 
 pub const TIME_BITS: usize = 10;
 
@@ -76,7 +85,8 @@ pub const JOB_HEAD: usize = WIRE_AT + TIME_BITS;
 // A job's groups.
 pub const LINK_BITS: usize = OP_BITS + OP_BITS;
 
-pub const PAIR_BITS: usize = TIME_BITS + TIME_BITS; // time and interval of one kind
+/// Time and interval of one kind.
+pub const PAIR_BITS: usize = TIME_BITS + TIME_BITS;
 
 pub const TYPE_HEAD: usize = COST_BITS + COPIES_BITS;
 
@@ -89,7 +99,7 @@ pub const PLAN_HEAD: usize = K_AT + INST_COUNT_BITS;
 
 pub const ROW_BITS: usize = STEP_BITS + INST_BITS;
 
-// Forms.
+// Forms: numbers and no enum, since each is the value of a field, and other sheets bring their own.
 pub const JOB_FORM: u32 = 1;
 
 pub const PLAN_FORM: u32 = 2;

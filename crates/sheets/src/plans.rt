@@ -1,22 +1,24 @@
 // The plan sheet, read and written.
 ghost use Rattle.std.specs.Prelude.{◌≡◌, ◌*◌, ◌≤◌, length};
 ghost use Rattle.basics.specs.Answers.{Promise};
+ghost use Rattle.basics.specs.Faults.{fault_in};
 ghost use Rattle.bits.specs.Bits.{Bytes};
 ghost use Rattle.bits.specs.Sheet.{put_all};
-ghost use Rattle.sheets.specs.Limits.{max_ops, max_insts, plan_head};
-ghost use Rattle.sheets.specs.PlanSheet.{PlanShape, plan_end, plan_of, plan_in, plan_counts_fault, plan_head_fault, plan_body_fault, plan_refused, read_plan, plan_fits, plan_record_fault, plan_count_fields, plan_fields, write_plan, plan_out};
+ghost use Rattle.sheets.specs.Answers.{written_of};
+ghost use Rattle.sheets.specs.PlanSheet.{PlanShape, plan_end, plan_in, plan_counts_fault, plan_head_fault, plan_body_fault, no_plan, plan_read_of, read_plan, plan_fits, plan_record_fault, plan_fields, FieldsFit, write_plan, plan_out};
 
-use crate::columns::{inst_column, op_column, put_doubles, put_singles};
-use crate::groups::{fill_fault, form_fault, runs_out};
+use crate::Plan;
+use crate::columns::{column, put_doubles, put_singles};
+use crate::groups::{fill_fault, form_fault, room_for, runs_out};
 use crate::limits::*;
-use crate::{Plan, PlanRead, Reading, Written};
-use basics::{blank, fault_unless, or_else, within};
+use basics::{Fault, Paper, Refusal, blame, blank, unless, within};
 
 // N or K is outside its limit.
-fn plan_counts_fault(n: u16, k: u16) -> u32
-    ensures { result ≡ plan_counts_fault n k }
+#[tactic(auto, unfolding(crate::specs::PlanSheet::plan_counts_fault))]
+fn plan_counts_fault(n: u16, k: u16) -> Result<(), Fault>
+    ensures { fault_in result ≡ plan_counts_fault n k }
 {
-    fault_unless((n <= MAX_OPS) & (k <= MAX_INSTS), basics::OUTSIDE_LIMIT)
+    unless((n <= MAX_OPS) & (k <= MAX_INSTS), Fault::OutsideLimit)
 }
 
 // The bits of the sheet of a plan of n operations and k instances.
@@ -27,171 +29,130 @@ fn plan_end(n: u16, k: u16) -> usize
 }
 
 // The first fault of the sheet's header.
-fn plan_head_fault(s: &[u8]) -> u32
-    ensures { result ≡ plan_head_fault s.now }
+#[tactic(auto, using(basics::proofs::FaultLaws::fault_laws), unfolding(crate::specs::PlanSheet::plan_head_fault))]
+fn plan_head_fault(s: &[u8]) -> Result<(), Fault>
+    ensures { fault_in result ≡ plan_head_fault s.now }
 {
+    form_fault(s, PLAN_FORM)?;
+    runs_out(s.len(), PLAN_HEAD)?;
     let n = bits::field(s, N_AT, OP_BITS) as u16;
     let k = bits::field(s, K_AT, INST_COUNT_BITS) as u16;
-    let rest = or_else(runs_out(s.len(), PLAN_HEAD), plan_counts_fault(n, k));
-    or_else(form_fault(s, PLAN_FORM), rest)
+    plan_counts_fault(n, k)
 }
 
-// The first fault behind the header, in a sheet that spells the plan p.
-fn plan_body_fault(s: &[u8], p: Plan) -> u32
-    ensures { result ≡ plan_body_fault s.now p }
+// The first fault behind the header, in a sheet that spells the plan.
+#[tactic(auto, using(basics::proofs::FaultLaws::fault_laws), unfolding(crate::specs::PlanSheet::plan_body_fault))]
+fn plan_body_fault(s: &[u8], plan: &Plan) -> Result<(), Fault>
+    ensures { fault_in result ≡ plan_body_fault s.now plan.now }
 {
-    let end = plan_end(p.n, p.k);
-    or_else(runs_out(s.len(), end), fill_fault(s, end))
-}
-
-// The plan of n operations and k instances that a sheet spells.
-fn plan_of(s: &[u8], n: usize, k: usize) -> Plan
-    requires { (n ≤ max_ops) × (k ≤ max_insts) }
-    ensures { result ≡ plan_of s.now n k }
-{
-    let rows = PLAN_HEAD + SELECT_BITS * k;
-    Plan {
-        n: n as u16,
-        k: k as u16,
-        selection: inst_column(s, PLAN_HEAD, SELECT_BITS, SELECT_BITS, k),
-        starts: op_column(s, rows, ROW_BITS, STEP_BITS, n),
-        insts: op_column(s, rows + STEP_BITS, ROW_BITS, INST_BITS, n),
-    }
+    let end = plan_end(plan.n, plan.k);
+    runs_out(s.len(), end)?;
+    fill_fault(s, end)
 }
 
 // The plan that a sheet spells whose header has no fault.
+#[tactic(auto, using(crate::proofs::PlanLaws::head_laws), unfolding(crate::specs::PlanSheet::plan_of))]
 fn plan_in(s: &[u8]) -> Plan
     requires { plan_head_fault s.now ≡ 0 }
     ensures { result ≡ plan_in s.now }
 {
     let n = bits::field(s, N_AT, OP_BITS) as usize;
     let k = bits::field(s, K_AT, INST_COUNT_BITS) as usize;
-    plan_of(s, n, k)
+    let rows = PLAN_HEAD + SELECT_BITS * k;
+    Plan {
+        n: n as u16,
+        k: k as u16,
+        selection: column(s, PLAN_HEAD, SELECT_BITS, SELECT_BITS, k),
+        starts: column(s, rows, ROW_BITS, STEP_BITS, n),
+        insts: column(s, rows + STEP_BITS, ROW_BITS, INST_BITS, n),
+    }
 }
 
-// The answer where the sheet's first fault is `fault`.
-fn plan_refused(fault: u32) -> PlanRead
-    ensures { result ≡ plan_refused fault }
-{
-    PlanRead {
-        answer: Reading::Refused {
-            number: fault,
-            paper: basics::PAPER_PLAN,
-        },
-        plan: Plan {
+// A record of zeros. By hand: no clause says of a derived one that it is `no_plan`.
+impl Default for Plan {
+    ghost is_default = { λ plan. plan ≡ no_plan };
+
+    #[tactic(auto, unfolding(crate::specs::PlanSheet::no_plan))]
+    fn default() -> Plan {
+        Plan {
             n: 0,
             k: 0,
-            selection: [0u16; INST_CELLS],
-            starts: [0u16; OP_CELLS],
-            insts: [0u16; OP_CELLS],
-        },
+            selection: [0; INST_CELLS],
+            starts: [0; OP_CELLS],
+            insts: [0; OP_CELLS],
+        }
     }
 }
 
-// A plan sheet's record, or the number of its first fault and a record of zeros.
-pub fn read_plan(sheet: &[u8]) -> PlanRead
-    ensures read { result ≡ read_plan sheet.now }
+// Reader and writer of a plan beside those of a job: what they share is in `blame` and `room_for`, and a trait for the rest, with its
+// laws, would be longer than both.
+/// A plan sheet's record, or its first fault.
+pub fn read_plan(sheet: &[u8]) -> Result<Plan, Refusal>
+    ensures read { plan_read_of result ≡ read_plan sheet.now }
     ensures bytes { Bytes sheet.now }
 {
-    let head = plan_head_fault(sheet);
-    if head != 0 {
-        return plan_refused(head);
-    }
+    blame(Paper::Plan, plan_head_fault(sheet))?;
     let plan = plan_in(sheet);
-    let body = plan_body_fault(sheet, plan);
-    if body != 0 {
-        return plan_refused(body);
-    }
-    PlanRead {
-        answer: Reading::Read,
-        plan,
-    }
+    blame(Paper::Plan, plan_body_fault(sheet, &plan))?;
+    Ok(plan)
 }
 
 // The numbers fit their fields, and unused cells are 0.
-fn plan_fits(p: Plan) -> bool
-    ensures { result ≡ plan_fits p }
+#[tactic(auto, unfolding(crate::specs::PlanSheet::plan_fits))]
+fn plan_fits(plan: &Plan) -> bool
+    ensures { result ≡ plan_fits plan.now }
 {
-    let selection = p.selection;
-    let starts = p.starts;
-    let insts = p.insts;
-    let n = p.n as usize;
-    let k = p.k as usize;
-    within(&selection, MAX_SELECT, k)
-        & within(&starts, MAX_STEPS, n)
-        & within(&insts, MAX_INST, n)
-        & blank(&selection, k)
-        & blank(&starts, n)
-        & blank(&insts, n)
+    let n = plan.n as usize;
+    let k = plan.k as usize;
+    within(&plan.selection, MAX_SELECT, k)
+        & within(&plan.starts, MAX_STEPS, n)
+        & within(&plan.insts, MAX_INST, n)
+        & blank(&plan.selection, k)
+        & blank(&plan.starts, n)
+        & blank(&plan.insts, n)
 }
 
 // The first fault of a record to be written.
-fn plan_record_fault(p: Plan) -> u32
-    ensures { result ≡ plan_record_fault p }
+#[tactic(auto, using(basics::proofs::FaultLaws::fault_laws), unfolding(crate::specs::PlanSheet::plan_record_fault))]
+fn plan_record_fault(plan: &Plan) -> Result<(), Fault>
+    ensures { fault_in result ≡ plan_record_fault plan.now }
 {
-    or_else(
-        plan_counts_fault(p.n, p.k),
-        fault_unless(plan_fits(p), basics::RECORD_BROKEN),
-    )
-}
-
-// Puts form, N and K.
-fn put_plan_counts(out: &mut [u8], n: u16, k: u16)
-    requires { (n ≤ max_ops) × (k ≤ max_insts) × (plan_head ≤ 8 * length out.old) }
-    ensures { out.new ≡ put_all out.old 0 (plan_count_fields n k) }
-{
-    bits::put(out, 0, FORM_BITS, PLAN_FORM);
-    bits::put(out, N_AT, OP_BITS, n as u32);
-    bits::put(out, K_AT, INST_COUNT_BITS, k as u32);
+    plan_counts_fault(plan.n, plan.k)?;
+    unless(plan_fits(plan), Fault::RecordBroken)
 }
 
 // Puts the header, the selection and the rows.
-fn put_plan(out: &mut [u8], p: Plan)
-    requires { (plan_record_fault p ≡ 0) × (plan_end p.n p.k ≤ 8 * length out.old) }
-    ensures { out.new ≡ put_all out.old 0 (plan_fields p) }
+#[tactic(auto, using(crate::proofs::PlanFieldLaws::plan_put_laws))]
+fn put_plan(out: &mut [u8], plan: &Plan)
+    requires fit { FieldsFit plan.now }
+    requires room { plan_end plan.now.n plan.now.k ≤ 8 * length out.old }
+    ensures { out.new ≡ put_all out.old 0 (plan_fields plan.now) }
 {
-    let selection = p.selection;
-    let starts = p.starts;
-    let insts = p.insts;
-    let n = p.n as usize;
-    let k = p.k as usize;
-    put_plan_counts(out, p.n, p.k);
-    put_singles(out, PLAN_HEAD, SELECT_BITS, &selection, k);
+    let n = plan.n as usize;
+    let k = plan.k as usize;
+    bits::put(out, 0, FORM_BITS, PLAN_FORM);
+    bits::put(out, N_AT, OP_BITS, plan.n as u32);
+    bits::put(out, K_AT, INST_COUNT_BITS, plan.k as u32);
+    put_singles(out, PLAN_HEAD, SELECT_BITS, &plan.selection[..k]);
     put_doubles(
         out,
         PLAN_HEAD + SELECT_BITS * k,
         STEP_BITS,
-        &starts,
+        &plan.starts[..n],
         INST_BITS,
-        &insts,
-        0,
-        n,
+        &plan.insts[..n],
     );
 }
 
-// Writes the plan's sheet from the output's first byte on. A refusal changes no byte.
-pub fn write_plan(plan: Plan, out: &mut [u8]) -> Written
-    ensures written { Promise (write_plan plan (length out.old)) (plan_out plan out.old) result out.new }
-    ensures shaped { PlanShape plan }
+/// Writes the plan's sheet from the output's first byte on, and answers its bytes. A refusal changes no byte.
+pub fn write_plan(plan: &Plan, out: &mut [u8]) -> Result<u32, Refusal>
+    ensures written { Promise (write_plan plan.now (length out.old)) (plan_out plan.now out.old) (written_of result) out.new }
+    ensures shaped { PlanShape plan.now }
 {
-    let fault = plan_record_fault(plan);
-    if fault != 0 {
-        return Written::Refused {
-            number: fault,
-            paper: basics::PAPER_PLAN,
-        };
-    }
+    blame(Paper::Plan, plan_record_fault(plan))?;
     let end = plan_end(plan.n, plan.k);
-    let length = bits::bytes_for(end);
-    if out.len() < length {
-        return Written::Refused {
-            number: basics::OUTPUT_SHORT,
-            paper: basics::PAPER_REQUEST,
-        };
-    }
+    let length = room_for(end, out)?;
     put_plan(out, plan);
     bits::put(out, end, 8 * length - end, 0);
-    Written::Wrote {
-        length: length as u32,
-    }
+    Ok(length as u32)
 }

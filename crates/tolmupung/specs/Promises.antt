@@ -1,7 +1,7 @@
 -- What a reader gives to C, in terms of the sheets' definitions. (A writer's promise is `Promise` of its answer in numbers.)
 use Rattle.sheets.specs.Answers.{reading_says}
-use Rattle.sheets.specs.declared.JobRead.{JobRead as JobReading}
-use Rattle.sheets.specs.declared.PlanRead.{PlanRead as PlanReading}
+use Rattle.sheets.specs.JobSheet.{JobRead as JobReading}
+use Rattle.sheets.specs.PlanSheet.{PlanRead as PlanReading}
 use Rattle.tolmupung.specs.declared.JobRead.{JobRead}
 use Rattle.tolmupung.specs.declared.PlanRead.{PlanRead}
 

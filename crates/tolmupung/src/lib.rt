@@ -20,8 +20,12 @@ use notes::checking::checked_says;
 use rules::judging::judged_says;
 use search::searching::searched_says;
 use sheets::answers::{reading_says, written_says};
+use sheets::jobs::{read_job, write_job};
+use sheets::plans::{read_plan, write_plan};
 use sheets::{Job, Plan};
 
+// Two structs, JobRead and PlanRead, since C has none with a parameter.
+/// A job reader's answer. Of a sheet that is refused the job is zeros.
 #[repr(C)]
 #[derive(Clone, Copy)]
 pub struct JobRead {
@@ -29,6 +33,7 @@ pub struct JobRead {
     pub job: Job,
 }
 
+/// A plan reader's answer. Of a sheet that is refused the plan is zeros.
 #[repr(C)]
 #[derive(Clone, Copy)]
 pub struct PlanRead {
@@ -40,12 +45,15 @@ pub struct PlanRead {
 pub extern "C" fn tolmupung_read_job(sheet: &[u8]) -> JobRead
     ensures { result ≡ job_says (read_job sheet.now) }
 {
-    let read = sheets::jobs::read_job(sheet);
-    let reading = read.answer;
-    let job = read.job;
-    JobRead {
-        answer: reading_says(reading),
-        job,
+    match read_job(sheet) {
+        Ok(job) => JobRead {
+            answer: reading_says(Ok(())),
+            job,
+        },
+        Err(refusal) => JobRead {
+            answer: reading_says(Err(refusal)),
+            job: Job::default(),
+        },
     }
 }
 
@@ -53,12 +61,15 @@ pub extern "C" fn tolmupung_read_job(sheet: &[u8]) -> JobRead
 pub extern "C" fn tolmupung_read_plan(sheet: &[u8]) -> PlanRead
     ensures { result ≡ plan_says (read_plan sheet.now) }
 {
-    let read = sheets::plans::read_plan(sheet);
-    let reading = read.answer;
-    let plan = read.plan;
-    PlanRead {
-        answer: reading_says(reading),
-        plan,
+    match read_plan(sheet) {
+        Ok(plan) => PlanRead {
+            answer: reading_says(Ok(())),
+            plan,
+        },
+        Err(refusal) => PlanRead {
+            answer: reading_says(Err(refusal)),
+            plan: Plan::default(),
+        },
     }
 }
 
@@ -66,14 +77,14 @@ pub extern "C" fn tolmupung_read_plan(sheet: &[u8]) -> PlanRead
 pub extern "C" fn tolmupung_write_job(job: Job, out: &mut [u8]) -> Answer
     ensures { Promise (written_says (write_job job (length out.old))) (job_out job out.old) result out.new }
 {
-    written_says(sheets::jobs::write_job(job, out))
+    written_says(write_job(&job, out))
 }
 
 #[unsafe(no_mangle)]
 pub extern "C" fn tolmupung_write_plan(plan: Plan, out: &mut [u8]) -> Answer
     ensures { Promise (written_says (write_plan plan (length out.old))) (plan_out plan out.old) result out.new }
 {
-    written_says(sheets::plans::write_plan(plan, out))
+    written_says(write_plan(&plan, out))
 }
 
 #[unsafe(no_mangle)]

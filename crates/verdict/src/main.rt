@@ -1,90 +1,51 @@
 // One dossier on standard input, one line on standard output: cheapest and the cost, none, or refused, paper and number.
 #![tactic(auto)]
 
-ghost use Rattle.std.specs.Prelude.{◌≡◌, ◌++◌, ◌≤◌, ◌+◌, length as length_of};
-ghost use Rattle.io.specs.Counts.{IsPrefixLen};
-ghost use Rattle.verdict.specs.Line.{line_cells, most_digits, decimal, line, spelt};
+ghost use Rattle.std.specs.Prelude.{◌≤◌, Some, length};
+ghost use Rattle.notes.specs.Check.{checked_of};
+ghost use Rattle.verdict.specs.Line.{line};
 
+use basics::Refusal;
 use dossiers::checking::check_dossier;
-use notes::Checked;
+use placing::Claim;
+use std::fmt;
 use std::io::{Input, Read, Write};
 
 // A byte more than any dossier has: input that fills it is too long, whatever follows.
 const INPUT_CELLS: usize = dossiers::limits::MAX_DOSSIER + 1;
 
-// Enough for the longest line, refused and two numbers.
-const LINE_CELLS: usize = 32;
-
-// A line as far as it is spelt.
+// What was answered, which is shown as the line that is written for it.
 #[derive(Clone, Copy)]
-struct Line {
-    text: [u8; LINE_CELLS],
-    length: usize,
-}
+struct Said(Result<Claim, Refusal>);
 
-// The line with more text behind it.
-fn with(line: Line, more: &[u8]) -> Line
-    requires { line.length + length_of more.now ≤ line_cells }
-    ensures { (result.length ≡ line.length + length_of more.now) × (spelt result ≡ spelt line ++ more.now) × IsPrefixLen result.length result.text }
-{
-    let mut text = line.text;
-    let at = line.length;
-    let count = more.len();
-    let mut i: usize = 0;
-    while i < count {
-        text[at + i] = more[i];
-        i += 1;
-    }
-    Line {
-        text,
-        length: at + count,
+impl fmt::Display for Said {
+    ghost output = { λ said. Some (line (checked_of said.0)) };
+
+    #[tactic(auto, unfolding(crate::specs::Line::line))]
+    fn fmt<W: fmt::Write>(&self, f: &mut fmt::Formatter<W>) -> fmt::Result {
+        match self.0 {
+            Ok(Some(cost)) => write!(f, "cheapest {cost}\n"),
+            Ok(None) => write!(f, "none\n"),
+            Err(refusal) => {
+                let paper = refusal.paper.number();
+                let number = refusal.fault.number();
+                write!(f, "refused {paper} {number}\n")
+            }
+        }
     }
 }
 
-// The line with a number behind it.
-fn with_number(line: Line, number: u32) -> Line
-    requires { line.length + most_digits ≤ line_cells }
-    ensures { (result.length ≤ line.length + most_digits) × (spelt result ≡ spelt line ++ decimal number) }
-{
-    let mut digits = [0u8; 20];
-    let count = io::decimal(number as u64, &mut digits);
-    with(line, &digits[..count])
-}
-
-// The line that is written for an answer.
-fn line_of(answer: Checked) -> Line
-    ensures { (spelt result ≡ line answer) × IsPrefixLen result.length result.text }
-{
-    let blank = Line {
-        text: [0u8; LINE_CELLS],
-        length: 0,
-    };
-    match answer {
-        Checked::Cheapest { cost } => with(with_number(with(blank, b"cheapest "), cost), b"\n"),
-        Checked::Nothing => with(blank, b"none\n"),
-        Checked::Refused { number, paper } => with(
-            with_number(
-                with(with_number(with(blank, b"refused "), paper), b" "),
-                number,
-            ),
-            b"\n",
-        ),
-    }
-}
-
+// A `while`, since each read says how far it went.
 // Reads until the table is full, the input ends or a read fails, and says how many bytes there are.
 fn read_full<R: Read>(input: &mut R, table: &mut [u8]) -> usize
-    ensures { IsPrefixLen result table.new }
+    ensures { result ≤ length table.new }
 {
     let mut done = 0;
     while done < table.len() {
-        let Ok(n) = input.read(&mut table[done..]) else {
-            break;
-        };
-        if n == 0 {
-            break;
+        match input.read(&mut table[done..]) {
+            Ok(0) | Err(_) => break,
+            Ok(n) => done += n,
         }
-        done += n;
     }
     done
 }
@@ -92,8 +53,7 @@ fn read_full<R: Read>(input: &mut R, table: &mut [u8]) -> usize
 fn main(rt: HostRuntime) -> std::io::Result<()> {
     let mut input = [0u8; INPUT_CELLS];
     let n = read_full(&mut rt.reader(), &mut input);
-    let said = line_of(check_dossier(&input[..n]));
-    let text = said.text;
-    let length = said.length;
-    std::io::writer(&rt).write_all(&text[..length])
+    let said = Said(check_dossier(&input[..n]));
+    let line = format!(in rt.alloc(); "{said}")?;
+    std::io::writer(&rt).write_all(line.as_bytes())
 }

@@ -1,11 +1,7 @@
 -- The loop has read the field of the bits passed.
-use Prim.Native.Nat.{◌≤◌, ◌-◌}
 use mathlib.Core.Path.{◌≡◌}
 use Rattle.bits.specs.Bits.{field}
 use Rattle.bits.proofs.field.Given as goal
 
 abbrev pub invariant-loop-i : goal.invariant-loop-i
-invariant-loop-i l = (l.i ≤ l.width) × (l.value ≡ field l.s l.at l.i)
-
-abbrev pub decreases-loop-i : goal.decreases-loop-i
-decreases-loop-i l = l.width - l.i
+invariant-loop-i l = l.value ≡ field l.s l.at l.i

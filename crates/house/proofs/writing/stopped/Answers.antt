@@ -1,12 +1,9 @@
--- Each way is the definition's.
-use Rattle.house.specs.House.{stopped_by, paper_if}
-use borrow.Author.Tests.{eq-eqb, ne_eqb}
+-- The paper is the request's where the output is too short.
+use Rattle.house.proofs.WriterSteps.{short-stops, other-stops}
 use Rattle.house.proofs.writing.stopped.Goals as goal
 
-pub returns-then-number-eq-OUTPUT_SHORT : goal.returns-then-number-eq-OUTPUT_SHORT
-unfolding stopped_by paper_if
-returns-then-number-eq-OUTPUT_SHORT c = rw (eq-eqb _ _ c.if-number-eq-OUTPUT_SHORT.true)
+pub returns-in-OutputShort : goal.returns-in-OutputShort
+returns-in-OutputShort c = short-stops _ c.in-OutputShort.is
 
-pub returns : goal.returns
-unfolding stopped_by paper_if
-returns c = rw (ne_eqb _ _ c.if-number-eq-OUTPUT_SHORT.false)
+pub returns-in_default : goal.returns-in_default
+returns-in_default c = other-stops _ c.in_default.not-OutputShort

@@ -1,13 +1,16 @@
 -- The note is written as it is claimed; where nothing is, that is the answer.
-use Rattle.notes.proofs.ReadLaws.{claim-read}
+use Rattle.std.proofs.lemmas.Result.{err_from_is_err_and}
+use Rattle.notes.proofs.CheckLaws.{claim-read}
 use Rattle.house.proofs.WriterSteps.{write-claimed, write-unclaimed}
 use Rattle.house.proofs.writing.write_note.Goals as goal
 
+pub returns-in_err-asked : goal.returns-in_err-asked
+returns-in_err-asked c =
+    let p = err_from_is_err_and c.from_residual.result c.from_residual.ensures.1 in
+    rw (p.1, p.2) (write-unclaimed _ _ _ _ c.in_err-asked.ensures)
+
 pub write_claim-requires : goal.write_claim-requires
-write_claim-requires c = claim-read _ _ c.ask-asked.ensures c.in-Claims.is
+write_claim-requires c = claim-read _ _ _ _ c.in_ok-asked.ensures
 
-pub returns-in-Claims : goal.returns-in-Claims
-returns-in-Claims c = write-claimed _ _ _ c.ask-asked.ensures c.in-Claims.is c.write_claim.ensures
-
-pub returns-in-Refused : goal.returns-in-Refused
-returns-in-Refused c = write-unclaimed _ _ _ c.ask-asked.ensures c.in-Refused.is
+pub returns : goal.returns
+returns c = write-claimed _ _ _ _ _ c.in_ok-asked.ensures c.write_claim.ensures

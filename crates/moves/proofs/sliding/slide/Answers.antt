@@ -1,14 +1,14 @@
 -- A plan that passed is slid.
+use Rattle.std.proofs.lemmas.Result.{err_from_is_err_and}
 use Rattle.moves.proofs.DistanceLaws.{same}
 use Rattle.moves.proofs.MoveSteps.{lent-sound, slide-passed, slide-unfit}
 use Rattle.moves.proofs.sliding.slide.Goals as goal
 
+pub returns-in_err-lent : goal.returns-in_err-lent
+returns-in_err-lent c = let p = err_from_is_err_and c.from_residual.result c.from_residual.ensures.1 in rw (p.1, p.2) (slide-unfit _ _ _ _ _ c.in_err-lent.ensures _)
+
 pub slide_plan-requires : goal.slide_plan-requires
-slide_plan-requires c = lent-sound _ _ _ _ c.lend-lent.ensures
+slide_plan-requires c = lent-sound _ _ _ _ c.in_ok-lent.ensures
 
-pub returns-in-Passed : goal.returns-in-Passed
-returns-in-Passed c =
-    slide-passed _ _ _ c.lend-lent.ensures _ _ (same c.args.distance c.ranges.distance) _ c.in-Passed.is _ _ _ c.slide_plan.ensures
-
-pub returns-in-Refused : goal.returns-in-Refused
-returns-in-Refused c = slide-unfit _ _ _ c.lend-lent.ensures _ _ _ c.in-Refused.is _
+pub returns : goal.returns
+returns c = slide-passed _ _ _ c.in_ok-lent.ensures _ _ (same c.args.distance c.ranges.distance) _ _ _ c.slide_plan.ensures

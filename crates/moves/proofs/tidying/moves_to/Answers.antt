@@ -1,26 +1,13 @@
-use mathlib.Core.Path.{◌≡◌}
-use native.Mathlib.Omega.{arith}
-use Rattle.basics.specs.Counting.{sum_to}
-use Rattle.basics.proofs.CountLaws.{sum_to-more, only-small}
-use Rattle.moves.specs.Tidy.{past_at, moves_to}
+-- What the instance moves past is counted.
+use borrow.Author.Rules.{rules}
+use mathlib.Core.Path.{ap}
+use Prim.Native.Nat.{ℕ, ◌+◌}
+use Rattle.moves.proofs.SumLaws.{counted-ran}
+use Rattle.moves.specs.Tidy.{moves_past, moves_to}
 use Rattle.moves.proofs.tidying.moves_to.Goals as goal
-
-pub loop-other-init : goal.loop-other-init
-unfolding sum_to
-loop-other-init c = (omega arith, omega arith, omega arith)
-
-pub overflow_add-place : goal.overflow_add-place
-overflow_add-place c = omega (arith, c.only.ensures, only-small c.moves_past.result 1)
-
-pub loop-other-preserved : goal.loop-other-preserved
-loop-other-preserved c =
-    let i = c.loop-other.invariant in
-    let a = c.args in
-    let added : c.only.result ≡ past_at a.types.now a.selection.now a.i c.loop-other.other = rw (c.only.ensures, c.moves_past.ensures) in
-    (omega arith, omega (arith, i.1, c.only.ensures, only-small c.moves_past.result 1), omega (arith, i.2, sum_to-more (past_at a.types.now a.selection.now a.i) c.loop-other.other, added))
 
 pub returns : goal.returns
 unfolding moves_to
 returns c =
-    let e : c.loop-other.other ≡ c.args.k = omega arith in
-    (rw e at c.loop-other.invariant.2, omega arith)
+    ap (λ (x : ℕ). c.args.i + x)
+    (counted-ran (moves_past c.args.types.now c.args.plan.now.selection c.args.i) c.args.plan.now.k c.filter.result c.filter.ensures.source c.filter.ensures.closure (λ x b q k. search rules) _ c.count-passed.ensures.ran)

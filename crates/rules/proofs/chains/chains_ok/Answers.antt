@@ -1,36 +1,18 @@
-use mathlib.Core.Path.{◌∙◌, ◌≡◌, ap, refl, sym}
+use mathlib.Core.Path.{◌∙◌, sym}
 use native.Mathlib.Omega.{arith}
-use lib.ListN.{length, replicate}
-use Rattle.basics.specs.Counting.{all_to}
-use Rattle.basics.proofs.CountLaws.{all_to-more}
-use Rattle.basics.proofs.TableLaws.{cell-replicate}
-use Rattle.sheets.specs.Limits.{op_cells}
-use Rattle.rules.specs.Rules.{Bounded, brought_by, chains_ok}
-use Rattle.rules.proofs.ChainLaws.{brings-length, brought-more}
+use Rattle.rules.proofs.ChainLaws.{tested-none, tested-off, tested-on}
 use Rattle.rules.proofs.chains.chains_ok.Goals as goal
 
 -- at first nothing has been brought
-zeros : Bounded (replicate op_cells 0) 0
-zeros o = omega (arith, cell-replicate op_cells o)
-
 pub loop-l-init : goal.loop-l-init
-unfolding brought_by all_to
-loop-l-init c = (omega arith, refl, refl, zeros, refl)
+loop-l-init c = tested-none _ _ _ _ _ _
 
-pub slice_bounds-run_ok-end : goal.slice_bounds-run_ok-end
-slice_bounds-run_ok-end c = sym c.loop-l.invariant.1
-
-pub run_ok-ok-requires : goal.run_ok-ok-requires
-run_ok-ok-requires c = (omega arith, c.loop-l.invariant.3)
+pub loop-l-preserved-then-not-same_step : goal.loop-l-preserved-then-not-same_step
+loop-l-preserved-then-not-same_step c =
+    tested-off _ _ _ _ _ _ _ _ c.loop-l.invariant (sym c.same_step.ensures ∙ c.if-not-same_step.true)
 
 pub loop-l-preserved : goal.loop-l-preserved
 loop-l-preserved c =
-    let i = c.loop-l.invariant in
-    let r = c.run_ok-ok.ensures in
-    (omega arith, ap length r.brings.0 ∙ brings-length _ _ _ _ _ _ _ ∙ i.1, rw (brought-more, ← i.2) r.brings.0, r.brings.1, rw (all_to-more, ← i.4, r.kept, i.2))
-
-pub returns : goal.returns
-unfolding chains_ok
-returns c =
-    let e : c.loop-l.l ≡ c.args.e = omega arith in
-    rw e at c.loop-l.invariant.4
+    let x = c.carried-reached.ensures in
+    tested-on _ _ _ _ _ _ _ _ c.loop-l.invariant _ _ (sym c.same_step.ensures ∙ c.if-not-same_step.false) x.0 c.cell-b.ensures.0 _ x.1
+    (omega arith) c.raise.ensures

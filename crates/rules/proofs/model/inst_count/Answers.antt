@@ -1,20 +1,16 @@
-use mathlib.Core.Path.{◌≡◌}
+-- A type has fewer than 2 ^ 16 copies, and there are fewer than 2 ^ 16 types.
+use Prim.Native.Nat.{◌-◌, ◌^◌}
 use native.Mathlib.Omega.{arith}
 use borrow.Author.Rules.{rules}
-use Rattle.basics.specs.Counting.{sum_to}
-use Rattle.basics.proofs.CountLaws.{sum_to-more}
+use Rattle.basics.specs.Tables.{cell}
+use Rattle.basics.proofs.ChainLaws.{sum_to-fits, sum_to-ran}
+use Rattle.basics.proofs.CountLaws.{sum_to-most}
 use Rattle.rules.proofs.model.inst_count.Goals as goal
 
-pub loop-y-init : goal.loop-y-init
-unfolding sum_to
-loop-y-init c = search rules
-
-pub loop-y-preserved : goal.loop-y-preserved
-loop-y-preserved c =
-    let i = c.loop-y.invariant in
-    (omega arith, omega (arith, c.cell.ensures.1), rw (sum_to-more, ← i.2, c.cell.ensures.0))
+pub sum-requires-clause-fits : goal.sum-requires-clause-fits
+sum-requires-clause-fits c =
+    sum_to-fits (cell c.args.copies.now) c.args.m c.map.result c.map.ensures.source c.map.ensures.closure (λ x b q k. search rules) _
+    (omega (arith, sum_to-most (cell c.args.copies.now) (2 ^ 16 - 1) c.args.m (λ y l. omega (arith, c.type_inv.copies y))))
 
 pub returns : goal.returns
-returns c =
-    let e : c.loop-y.y ≡ c.args.m = omega arith in
-    rw e at c.loop-y.invariant.2
+returns c = sum_to-ran (cell c.args.copies.now) c.args.m c.map.result c.map.ensures.source c.map.ensures.closure (λ x b q k. search rules) _ c.sum.ensures.ran

@@ -1,19 +1,6 @@
-use mathlib.Core.Path.{◌≡◌}
-use native.Mathlib.Omega.{arith}
 use borrow.Author.Rules.{rules}
-use Rattle.basics.specs.Tables.{filled}
-use Rattle.basics.proofs.TableLaws.{filled_more}
-use Rattle.sheets.specs.Limits.{op_cells}
+use Rattle.basics.proofs.ChainLaws.{cells-made}
 use Rattle.rules.proofs.model.row_spans.Goals as goal
 
-pub loop-o-init : goal.loop-o-init
-unfolding filled
-loop-o-init c = search rules
-
-pub loop-o-preserved : goal.loop-o-preserved
-loop-o-preserved c = (omega arith, rw (filled_more, ← c.loop-o.invariant.1, c.span_of.ensures.0, c.cell.ensures.0))
-
 pub returns : goal.returns
-returns c =
-    let e : c.loop-o.o ≡ op_cells = omega arith in
-    rw e at c.loop-o.invariant.1
+returns c = cells-made _ _ (λ x y q l k. search rules) c.from_fn.ensures.items

@@ -1,12 +1,9 @@
 -- The loop has found no fault in the rows passed.
-use Prim.Native.Nat.{◌-◌, ◌≤◌}
 use mathlib.Core.Path.{◌≡◌}
 use Rattle.basics.specs.Faults.{first}
 use Rattle.rules.specs.Rules.{row_fault_at}
 use Rattle.rules.proofs.rows.rows_fault.Given as goal
 
 abbrev pub invariant-loop-o : goal.invariant-loop-o
-invariant-loop-o l = (l.o ≤ l.rows) × (first (row_fault_at l.k l.t l.starts l.insts l.times l.delays l.selection) l.o ≡ 0)
-
-abbrev pub decreases-loop-o : goal.decreases-loop-o
-decreases-loop-o l = l.rows - l.o
+invariant-loop-o l =
+    first (row_fault_at l.k l.job.t l.plan.starts l.plan.insts l.timing.times l.timing.delays l.plan.selection) l.o ≡ 0

@@ -1,35 +1,21 @@
-use Prim.Native.Nat.{◌^◌, ◌<◌}
-use mathlib.Core.Path.{◌≡◌}
+-- A cost has 16 bits, and there are fewer than 2 ^ 16 instances.
+use Prim.Native.Nat.{◌^◌, ◌-◌}
 use native.Mathlib.Omega.{arith}
 use borrow.Author.Rules.{rules}
-use Rattle.basics.specs.Counting.{sum_to}
-use Rattle.basics.proofs.CountLaws.{only-small, sum_to-more}
-use Rattle.rules.specs.Selection.{cost_at, selection_cost}
-use Rattle.rules.proofs.selection.selection_cost.Tie as tie
-use Rattle.rules.proofs.selection.selection_cost.Reads as reads
-use Rattle.rules.proofs.selection.selection_cost.Lts as lts
+use Rattle.basics.proofs.ChainLaws.{sum_to-fits, sum_to-ran}
+use Rattle.rules.proofs.RuleLaws.{cost-most}
+use Rattle.rules.specs.Selection.{cost_at, selected, selection_cost}
 use Rattle.rules.proofs.selection.selection_cost.Goals as goal
 
--- what an instance adds is at most a cost
-small : (c : lts.After-only tie.the-claims reads.Pre reads.Post goal.the-invariant-loop-i goal.the-decreases-loop-i) → c.only-sum.result < 2 ^ 16
-small c =
-    let k = only-small c.selected.result c.cell.result in omega (arith, c.only-sum.ensures, c.cell.ensures.1)
-
-pub loop-i-init : goal.loop-i-init
-unfolding sum_to
-loop-i-init c = search rules
-
-pub overflow_add-sum : goal.overflow_add-sum
-overflow_add-sum c = omega (arith, small c.before)
-
-pub loop-i-preserved : goal.loop-i-preserved
-unfolding cost_at
-loop-i-preserved c =
-    let l = c.loop-i.invariant in
-    (omega arith, omega (arith, small c.before), rw (sum_to-more, ← l.2, c.only-sum.ensures, c.cell.ensures.0, c.selected.ensures, c.cell-y.ensures.0))
+pub sum-requires-clause-fits : goal.sum-requires-clause-fits
+unfolding selection_cost
+sum-requires-clause-fits c =
+    sum_to-fits (cost_at c.args.costs.now c.args.types.now (selected c.args.selection.now)) c.args.k c.map.result c.map.ensures.source c.map.ensures.closure
+    (λ x b q k. search rules) _
+    (omega (arith, cost-most c.args.costs.now c.args.types.now (selected c.args.selection.now) (2 ^ 16 - 1) c.args.k (λ y. omega (arith, c.type_inv.costs y))))
 
 pub returns : goal.returns
 unfolding selection_cost
 returns c =
-    let e : c.loop-i.i ≡ c.args.k = omega arith in
-    rw e at c.loop-i.invariant.2
+    sum_to-ran (cost_at c.args.costs.now c.args.types.now (selected c.args.selection.now)) c.args.k c.map.result c.map.ensures.source c.map.ensures.closure
+    (λ x b q k. search rules) _ c.sum.ensures.ran

@@ -1,12 +1,15 @@
 -- A job that is read is searched.
+use Rattle.std.proofs.lemmas.Result.{err_from_is_err_and}
 use Rattle.search.proofs.SearchSteps.{ends_read, ends-unread, was_read}
 use Rattle.search.proofs.searching.search.Goals as goal
 
-pub returns-in_default : goal.returns-in_default
-returns-in_default c = ends-unread _ _ _ c.read_job-read.ensures.read c.in_default.is c.unread.ensures
+pub returns-in_err-job : goal.returns-in_err-job
+returns-in_err-job c =
+    let p = err_from_is_err_and c.from_residual.result c.from_residual.ensures.1 in
+    rw (p.1, p.2) (ends-unread _ _ _ _ c.in_err-job.ensures.read)
 
 pub search_job-requires : goal.search_job-requires
-search_job-requires c = was_read _ c.read_job-read.ensures.read c.in-Read.is
+search_job-requires c = was_read _ _ c.in_ok-job.ensures.read
 
 pub returns : goal.returns
-returns c = ends_read _ _ _ c.read_job-read.ensures.read c.in-Read.is c.search_job.ensures
+returns c = ends_read _ _ _ _ c.in_ok-job.ensures.read c.search_job.ensures

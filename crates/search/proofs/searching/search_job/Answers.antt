@@ -1,47 +1,33 @@
--- The walk begins with nothing placed; its end decides.
-use Rattle.placing.proofs.ReadyLaws.{none-ready}
+-- The walk's end decides.
+use Rattle.std.proofs.lemmas.Result.{err_from_is_err_and}
 use Rattle.placing.proofs.BoardLaws.{board-read, read-limits}
-use Rattle.search.proofs.SearchSteps.{best-long, ends_found, ends-none, ends-spent, few-units, first-kept, plan-is, start-over, walk-done, walk-spent}
-use borrow.Author.Tests.{not-false, not-true}
-use mathlib.Core.Path.{◌∙◌, ap, sym}
-use native.Mathlib.Omega.{arith}
-use Rattle.search.specs.declared.Progress.{Progress}
+use Rattle.search.proofs.SearchSteps.{ends-written, ends-short, ends-none, ends-spent, few-units}
 use Rattle.search.proofs.searching.search_job.Goals as goal
 
 pub board_of-board-requires : goal.board_of-board-requires
 board_of-board-requires c = read-limits _ c.requires
 
+pub walked-requires : goal.walked-requires
+walked-requires c = board-read _ c.requires c.board_of-board.ensures
+
 pub returns-in_default : goal.returns-in_default
-returns-in_default c = ends-spent _ _ _ (start-over _ _ _ c.arrive-arrival.ensures c.in_default.not-Open)
+returns-in_default c = ends-spent _ _ _ (rw (← c.board_of-board.ensures) c.in_default.ensures)
 
-pub walk-walked-requires : goal.walk-walked-requires
-walk-walked-requires c =
-    (none-ready _ (board-read _ c.requires c.board_of-board.ensures) 0 (omega arith), first-kept c.arrive-arrival.ensures c.in-Open.is)
+pub returns-in_default-best : goal.returns-in_default-best
+returns-in_default-best c =
+    let d = rw c.board_of-board.ensures at c.in-Some.ensures in
+    ends-none _ _ _ d.0 c.in-Some.walk d.1 c.in_default-best.is
 
-pub returns-in_default-walked : goal.returns-in_default-walked
-returns-in_default-walked c =
-    ends-spent _ _ _ (walk-spent _ c.board_of-board.ensures c.arrive-arrival.ensures c.in-Open.is c.walk-walked.ensures c.in_default-walked.is)
+pub smallest-requires : goal.smallest-requires
+smallest-requires c = few-units _ c.board_of-board.ensures c.requires
 
-pub returns-then-not-done : goal.returns-then-not-done
-returns-then-not-done c =
-    let d = walk-done _ c.board_of-board.ensures c.arrive-arrival.ensures c.in-Open.is c.walk-walked.ensures c.in-Done.is in
-    ends-none _ _ _ d.0 (sym (ap (λ (x : Progress). x.held) d.1) ∙ not-true _ c.if-not-done.true) (ap (λ (x : Progress). x.visits) d.1)
-
-pub slice_bounds-smallest-end-2 : goal.slice_bounds-smallest-end-2
-slice_bounds-smallest-end-2 c =
-    let d = walk-done _ c.board_of-board.ensures c.arrive-arrival.ensures c.in-Open.is c.walk-walked.ensures c.in-Done.is in
-    sym (best-long _ c.board_of-board.ensures d.2 c.requires (sym (ap (λ (x : Progress). x.held) d.1) ∙ not-false _ c.if-not-done.false)).0
-
-pub slice_bounds-smallest-end-3 : goal.slice_bounds-smallest-end-3
-slice_bounds-smallest-end-3 c =
-    let d = walk-done _ c.board_of-board.ensures c.arrive-arrival.ensures c.in-Open.is c.walk-walked.ensures c.in-Done.is in
-    sym (best-long _ c.board_of-board.ensures d.2 c.requires (sym (ap (λ (x : Progress). x.held) d.1) ∙ not-false _ c.if-not-done.false)).1
-
-pub smallest-selection-requires : goal.smallest-selection-requires
-smallest-selection-requires c = few-units _ c.board_of-board.ensures c.requires
+pub returns-in_err-length : goal.returns-in_err-length
+returns-in_err-length c =
+    let d = rw c.board_of-board.ensures at c.in-Some.ensures in
+    let p = err_from_is_err_and c.from_residual.result c.from_residual.ensures.1 in
+    rw (p.1, p.2) (ends-short _ _ _ d.0 c.in-Some.walk d.1 c.board_of-board.ensures c.in-Some-best.is c.smallest.ensures _ _ c.in_err-length.ensures.written)
 
 pub returns : goal.returns
 returns c =
-    let d = walk-done _ c.board_of-board.ensures c.arrive-arrival.ensures c.in-Open.is c.walk-walked.ensures c.in-Done.is in
-    ends_found _ _ _ d.0 (sym (ap (λ (x : Progress). x.held) d.1) ∙ not-false _ c.if-not-done.false) (ap (λ (x : Progress). x.cost) d.1) (ap (λ (x : Progress). x.visits) d.1)
-    (plan-is _ c.board_of-board.ensures d.2 c.smallest-selection.ensures) c.write_plan.ensures.written c.found.ensures
+    let d = rw c.board_of-board.ensures at c.in-Some.ensures in
+    ends-written _ _ _ d.0 c.in-Some.walk d.1 c.board_of-board.ensures c.in-Some-best.is c.smallest.ensures _ c.in_ok-length.ensures.written

@@ -1,11 +1,9 @@
--- A header without fault has its counts within their limits.
-use Rattle.sheets.proofs.JobLaws.{head-counts}
+-- Each field and each column is the definition's.
+use Rattle.sheets.specs.JobSheet.{job_of}
 use Rattle.sheets.proofs.jobs.job_in.Goals as goal
 
-pub job_of-requires : goal.job_of-requires
-job_of-requires c =
-    let k = head-counts _ c.requires in
-    rw (c.field-m.ensures.0, c.field-e.ensures.0, c.field-n.ensures.0) (k.ops, k.links, k.types)
-
 pub returns : goal.returns
-returns c = rw (c.job_of.ensures, c.field-m.ensures.0, c.field-e.ensures.0, c.field-n.ensures.0)
+unfolding job_of
+returns c =
+    let h = c.job_head-head.ensures in
+    simp (c.pair_column-2.ensures, c.pair_column.ensures, c.column-5.ensures, c.column-4.ensures, c.column-3.ensures, c.column-2.ensures, c.column.ensures, c.types_at-types.ensures, c.links_at-links.ensures, h.ops, h.links, h.types, h.steps, h.clock, h.wire)

@@ -1,28 +1,23 @@
--- The faults of head and body join to the sheet's first.
-use mathlib.Core.Path.{◌∙◌, ap, sym}
-use Rattle.basics.proofs.FaultLaws.{or_else-go, stopped, went}
-use Rattle.sheets.specs.JobSheet.{job_body_fault, job_fault}
-use Rattle.sheets.proofs.JobLaws.{job-body, job-read, job-refused}
+-- A fault of the header or behind it stops; else the job is the one spelt.
+use mathlib.Core.Path.{◌≡◌, sym, ◌∙◌}
+use borrow.Author.Rules.{rules}
+use Rattle.std.specs.Prelude.{Err}
+use Rattle.basics.proofs.FaultLaws.{blamed-none}
+use Rattle.sheets.proofs.JobLaws.{head-refused, body-refused, job-read}
 use Rattle.sheets.proofs.jobs.read_job.Goals as goal
 
-pub returns-then-head-ne0 : goal.returns-then-head-ne0
-unfolding job_fault
-returns-then-head-ne0 c =
-    record { read = job-refused _ _ _ c.job_refused.ensures (stopped _ _ _ c.job_head_fault-head.ensures c.if-head-ne0.true) c.if-head-ne0.true; bytes = λ i. (c.type_inv.sheet i).fits }
+pub returns-in_err-blame-clause-read : goal.returns-in_err-blame-clause-read
+returns-in_err-blame-clause-read c =
+    let e : c.from_residual.result ≡ Err c.in_err-blame.field-0.0 = search rules in
+    rw e (head-refused _ _ _ c.in_err-blame.ensures c.job_head_fault.ensures)
 
-pub job_in-job-requires : goal.job_in-job-requires
-job_in-job-requires c = sym c.job_head_fault-head.ensures ∙ c.if-head-ne0.false
+pub returns-in_err-blame-2-clause-read : goal.returns-in_err-blame-2-clause-read
+returns-in_err-blame-2-clause-read c =
+    let e : c.from_residual-in_err-blame-2.result ≡ Err c.in_err-blame-2.field-0.0 = search rules in
+    let z = sym c.job_head_fault.ensures ∙ blamed-none _ _ _ c.in_ok-blame.ensures in
+    rw e (body-refused _ _ _ _ z c.job_in-job.ensures c.in_err-blame-2.ensures c.job_body_fault.ensures)
 
-pub returns-then-body-ne0 : goal.returns-then-body-ne0
-unfolding job_fault
-returns-then-body-ne0 c =
-    let z = sym c.job_head_fault-head.ensures ∙ c.if-head-ne0.false in
-    let body = job-body _ _ _ _ c.job_tables_fault-tables.ensures c.job_body_fault-body.ensures in
-    record { read = job-refused _ _ _ c.job_refused-then-body-ne0.ensures (went _ _ _ z (body ∙ ap (job_body_fault _) c.job_in-job.ensures)) c.if-body-ne0.true; bytes = λ i. (c.type_inv.sheet i).fits }
-
-pub returns : goal.returns
-unfolding job_fault
-returns c =
-    let z = sym c.job_head_fault-head.ensures ∙ c.if-head-ne0.false in
-    let body = job-body _ _ _ _ c.job_tables_fault-tables.ensures c.job_body_fault-body.ensures in
-    record { read = job-read _ _ (or_else-go _ _ z ∙ ap (job_body_fault _) (sym c.job_in-job.ensures) ∙ sym body ∙ c.if-body-ne0.false) c.job_in-job.ensures; bytes = λ i. (c.type_inv.sheet i).fits }
+pub returns-clause-read : goal.returns-clause-read
+returns-clause-read c =
+    let z = sym c.job_head_fault.ensures ∙ blamed-none _ _ _ c.in_ok-blame.ensures in
+    job-read _ _ _ _ z c.job_in-job.ensures c.in_ok-blame-2.ensures c.job_body_fault.ensures

@@ -1,72 +1,38 @@
--- A fault or a short output stops before the first put; else head, graph, units and fill make the sheet.
-use Prim.Native.Nat.{ℕ, ◌≤◌}
-use mathlib.Core.Path.{sym, ap, ◌∙◌}
-use native.Mathlib.Omega.{arith}
+-- A fault or a short output stops before the first put; else the fields and the fill make the sheet.
+use mathlib.Core.Path.{◌≡◌, refl}
 use borrow.Author.Rules.{rules}
-use lib.ListN.{length}
-use lib.Pow.{pow_pos}
-use Rattle.basics.specs.Tables.{cell}
-use Rattle.bits.specs.Sheet.{bytes_for}
+use Rattle.std.specs.Prelude.{Err}
+use Rattle.bits.specs.Bits.{Bytes}
 use Rattle.sheets.proofs.AnswerLaws.{writes-fault, writes_short, writes-sheet}
-use Rattle.sheets.proofs.JobFieldLaws.{put-job}
-use Rattle.sheets.proofs.RecordLaws.{none-record}
+use Rattle.sheets.proofs.JobFieldLaws.{fields_fit, put-job}
 use Rattle.sheets.specs.JobRecord.{JobShape}
-use Rattle.sheets.specs.JobSheet.{job_end, job_sheet, write_job, job_out}
-use mir.Syntax.{w16}
-use mir.Val.{Fits}
-use Rattle.sheets.proofs.jobs.write_job.Tie as tie
-use Rattle.sheets.proofs.jobs.write_job.Reads as reads
-use Rattle.sheets.proofs.jobs.write_job.Lts as lts
+use Rattle.sheets.specs.JobSheet.{job_sheet, write_job, job_out}
 use Rattle.sheets.proofs.jobs.write_job.Goals as goal
 
--- what the record's types say
-shape : (s : lts.Start tie.the-claims reads.Pre reads.Post tie.handed_clauses) → JobShape s.args.job
-shape s =
-    let k : (y : ℕ) → Fits w16 (cell s.args.job.costs y) = λ y. search (rules, s.well_formed.0.1.1.1.1.1.1.1.1.1.1.1.0) in
-    record {
-      kinds = search (rules, s.well_formed.0.1.1.1.1.1.1.1.1.0);
-      from = search (rules, s.well_formed.0.1.1.1.1.1.1.1.1.1.0);
-      to = search (rules, s.well_formed.0.1.1.1.1.1.1.1.1.1.1.0);
-      costs = search (rules, s.well_formed.0.1.1.1.1.1.1.1.1.1.1.1.0);
-      copies = search (rules, s.well_formed.0.1.1.1.1.1.1.1.1.1.1.1.1.0);
-      times = search (rules, s.well_formed.0.1.1.1.1.1.1.1.1.1.1.1.1.1.0);
-      intervals = search (rules, s.well_formed.0.1.1.1.1.1.1.1.1.1.1.1.1.1.1);
-      cost_bound = λ y. (k y).fits;
-    }
-
-pub returns-then-fault-ne0 : goal.returns-then-fault-ne0
+pub returns-in_err-blame-clause-written : goal.returns-in_err-blame-clause-written
 unfolding write_job job_out
-returns-then-fault-ne0 c =
-    let a = c.args in
-    record { written = writes-fault _ _ _ (job_sheet a.job) a.out.now _ c.job_record_fault-fault.ensures c.if-fault-ne0.true; shaped = shape c.before.before.before.before }
+returns-in_err-blame-clause-written c =
+    let e : c.from_residual.result ≡ Err c.in_err-blame.field-0.0 = search rules in
+    rw e (writes-fault _ _ _ (job_sheet c.args.job.now) c.args.out.now _ _ c.job_record_fault.ensures _ c.in_err-blame.ensures refl)
 
-pub returns-then-out-length : goal.returns-then-out-length
+pub returns-in_err-length-clause-written : goal.returns-in_err-length-clause-written
 unfolding write_job job_out
-returns-then-out-length c =
-    let a = c.args in
-    let j = a.job in
-    let z = sym c.job_record_fault-fault.ensures ∙ c.if-fault-ne0.false in
-    let e = c.bytes_for-length.ensures ∙ ap (λ (k : ℕ). bytes_for k) c.job_end-end.ensures in
-    record { written = writes_short _ _ _ (job_sheet j) a.out.now z (rw (← e) c.if-out-length.true); shaped = shape c.before.before.before.before.before.before.before }
+returns-in_err-length-clause-written c =
+    let r = c.in_err-length.ensures.short in
+    let e : c.from_residual-in_err-length.result ≡ Err c.in_err-length.field-0.0 = search rules in
+    rw (e, r.1) (writes_short _ _ _ (job_sheet c.args.job.now) c.args.out.now _ _ c.job_record_fault.ensures c.in_ok-blame.ensures (rw (← c.job_end-end.ensures) r.0))
 
-pub put-requires : goal.put-requires
-put-requires c =
-    let e = c.bytes_for-length.ensures in
+pub put_job-requires-clause-fit : goal.put_job-requires-clause-fit
+put_job-requires-clause-fit c = fields_fit _ _ _ c.job_record_fault.ensures c.in_ok-blame.ensures
+
+pub returns-clause-written : goal.returns-clause-written
+unfolding write_job job_out
+returns-clause-written c =
+    let j = c.args.job.now in
+    let l = c.in_ok-length.ensures.ok in
     let d = c.job_end-end.ensures in
-    (omega arith, rw (c.put_units.auto.out, c.put_graph.auto.out, c.put_job_head.auto.out) (omega arith), pow_pos _)
-
-pub returns : goal.returns
-unfolding write_job job_out
-returns c =
-    let a = c.args in
-    let j = a.job in
-    let z = sym c.job_record_fault-fault.ensures ∙ c.if-fault-ne0.false in
-    let d = c.job_end-end.ensures in
-    let e = c.bytes_for-length.ensures in
-    let l : bytes_for (job_end j.n j.e j.m) ≤ length a.out.now = rw (← d, ← e) (omega arith) in
-    rw (e, d) record {
-      written = writes-sheet _ _ _ (job_sheet j) a.out.now _ z l
-          (rw (c.put.ensures, c.put_units.ensures, c.put_graph.ensures, c.put_job_head.ensures, e, d)
-          (put-job j (none-record j z) (shape c.before.before.before.before.before.before.before.before.before.before.before.before.before.before.before.before.before.before.before.before.before.before.before).cost_bound a.out.now (λ i. (c.slice_known-1.given i).fits) l));
-      shaped = shape c.before.before.before.before.before.before.before.before.before.before.before.before.before.before.before.before.before.before.before.before.before.before.before;
-    }
+    let fit = fields_fit j _ _ c.job_record_fault.ensures c.in_ok-blame.ensures in
+    let b : Bytes c.args.out.now = search rules in
+    let t : JobShape j = search rules in
+    rw (l.0, d) (writes-sheet _ _ _ (job_sheet j) c.args.out.now _ _ c.job_record_fault.ensures _ c.in_ok-blame.ensures (rw (l.0, d) at l.1)
+    (rw (c.put.ensures, c.put_job.ensures, l.0, d) (put-job j fit t.cost_bound c.args.out.now b (rw (l.0, d) at l.1))))

@@ -1,59 +1,36 @@
 -- A fault or a short output stops before the first put; else the fields and the fill make the sheet.
-use Prim.Native.Nat.{ℕ, ◌≤◌}
-use mathlib.Core.Path.{sym, ap, ◌∙◌}
-use native.Mathlib.Omega.{arith}
+use mathlib.Core.Path.{◌≡◌, refl}
 use borrow.Author.Rules.{rules}
-use lib.ListN.{length}
-use lib.Pow.{pow_pos}
-use Rattle.bits.specs.Sheet.{bytes_for}
+use Rattle.std.specs.Prelude.{Err}
+use Rattle.bits.specs.Bits.{Bytes}
 use Rattle.sheets.proofs.AnswerLaws.{writes-fault, writes_short, writes-sheet}
-use Rattle.sheets.proofs.PlanFieldLaws.{none-plan, put-plan}
-use Rattle.sheets.specs.PlanSheet.{PlanShape, plan_end, plan_sheet, write_plan, plan_out}
-use Rattle.sheets.proofs.plans.write_plan.Tie as tie
-use Rattle.sheets.proofs.plans.write_plan.Reads as reads
-use Rattle.sheets.proofs.plans.write_plan.Lts as lts
+use Rattle.sheets.proofs.PlanFieldLaws.{fields_fit, put-plan}
+use Rattle.sheets.specs.PlanSheet.{plan_sheet, write_plan, plan_out}
 use Rattle.sheets.proofs.plans.write_plan.Goals as goal
 
--- what the record's types say
-shape : (s : lts.Start tie.the-claims reads.Pre reads.Post tie.handed_clauses) → PlanShape s.args.plan
-shape s =
-    record {
-      selection = search (rules, s.well_formed.0.1.1.1.1.0);
-      starts = search (rules, s.well_formed.0.1.1.1.1.1.0);
-      insts = search (rules, s.well_formed.0.1.1.1.1.1.1);
-    }
-
-pub returns-then-fault-ne0 : goal.returns-then-fault-ne0
+pub returns-in_err-blame-clause-written : goal.returns-in_err-blame-clause-written
 unfolding write_plan plan_out
-returns-then-fault-ne0 c =
-    let a = c.args in
-    record { written = writes-fault _ _ _ (plan_sheet a.plan) a.out.now _ c.plan_record_fault-fault.ensures c.if-fault-ne0.true; shaped = shape c.before.before.before.before }
+returns-in_err-blame-clause-written c =
+    let e : c.from_residual.result ≡ Err c.in_err-blame.field-0.0 = search rules in
+    rw e (writes-fault _ _ _ (plan_sheet c.args.plan.now) c.args.out.now _ _ c.plan_record_fault.ensures _ c.in_err-blame.ensures refl)
 
-pub returns-then-out-length : goal.returns-then-out-length
+pub returns-in_err-length-clause-written : goal.returns-in_err-length-clause-written
 unfolding write_plan plan_out
-returns-then-out-length c =
-    let a = c.args in
-    let z = sym c.plan_record_fault-fault.ensures ∙ c.if-fault-ne0.false in
-    let e = c.bytes_for-length.ensures ∙ ap (λ (k : ℕ). bytes_for k) c.plan_end-end.ensures in
-    record { written = writes_short _ _ _ (plan_sheet a.plan) a.out.now z (rw (← e) c.if-out-length.true); shaped = shape c.before.before.before.before.before.before.before }
+returns-in_err-length-clause-written c =
+    let r = c.in_err-length.ensures.short in
+    let e : c.from_residual-in_err-length.result ≡ Err c.in_err-length.field-0.0 = search rules in
+    rw (e, r.1) (writes_short _ _ _ (plan_sheet c.args.plan.now) c.args.out.now _ _ c.plan_record_fault.ensures c.in_ok-blame.ensures (rw (← c.plan_end-end.ensures) r.0))
 
-pub put-requires : goal.put-requires
-put-requires c =
-    let e = c.bytes_for-length.ensures in
+pub put_plan-requires-clause-fit : goal.put_plan-requires-clause-fit
+put_plan-requires-clause-fit c = fields_fit _ _ _ c.plan_record_fault.ensures c.in_ok-blame.ensures
+
+pub returns-clause-written : goal.returns-clause-written
+unfolding write_plan plan_out
+returns-clause-written c =
+    let p = c.args.plan.now in
+    let l = c.in_ok-length.ensures.ok in
     let d = c.plan_end-end.ensures in
-    (omega arith, rw c.put_plan.auto.out (omega arith), pow_pos _)
-
-pub returns : goal.returns
-unfolding write_plan plan_out
-returns c =
-    let a = c.args in
-    let p = a.plan in
-    let z = sym c.plan_record_fault-fault.ensures ∙ c.if-fault-ne0.false in
-    let d = c.plan_end-end.ensures in
-    let e = c.bytes_for-length.ensures in
-    let l : bytes_for (plan_end p.n p.k) ≤ length a.out.now = rw (← d, ← e) (omega arith) in
-    rw (e, d) record {
-      written = writes-sheet _ _ _ (plan_sheet p) a.out.now _ z l
-          (rw (c.put.ensures, c.put_plan.ensures, e, d) (put-plan p (none-plan p z) a.out.now (λ i. (c.slice_known-1.given i).fits) l));
-      shaped = shape c.before.before.before.before.before.before.before.before.before.before.before.before.before.before.before;
-    }
+    let fit = fields_fit p _ _ c.plan_record_fault.ensures c.in_ok-blame.ensures in
+    let b : Bytes c.args.out.now = search rules in
+    rw (l.0, d) (writes-sheet _ _ _ (plan_sheet p) c.args.out.now _ _ c.plan_record_fault.ensures _ c.in_ok-blame.ensures (rw (l.0, d) at l.1)
+    (rw (c.put.ensures, c.put_plan.ensures, l.0, d) (put-plan p fit c.args.out.now b (rw (l.0, d) at l.1))))

@@ -1,5 +1,0 @@
--- The check's answer, said in numbers.
-use Rattle.tolmupung.proofs.tolmupung_check_note.Goals as goal
-
-pub returns : goal.returns
-returns c = rw (c.checked_says.ensures, c.check_note.ensures)

@@ -1,5 +1,0 @@
--- The reader's answer, said in numbers.
-use Rattle.tolmupung.proofs.tolmupung_read_job.Goals as goal
-
-pub returns : goal.returns
-returns c = rw (c.reading_says.ensures, c.read_job-read.ensures.read)

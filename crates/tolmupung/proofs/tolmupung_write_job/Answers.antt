@@ -1,7 +1,0 @@
--- The writer's answer, said in numbers, and its bytes.
-use Rattle.tolmupung.proofs.tolmupung_write_job.Goals as goal
-
-pub returns : goal.returns
-returns c =
-    let w = c.write_job.ensures.written in
-    record { told = rw (c.written_says.ensures, w.told); bytes = w.bytes }

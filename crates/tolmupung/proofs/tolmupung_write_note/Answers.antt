@@ -1,7 +1,0 @@
--- The house writer's answer, said in numbers, and its bytes.
-use Rattle.tolmupung.proofs.tolmupung_write_note.Goals as goal
-
-pub returns : goal.returns
-returns c =
-    let w = c.write_note.ensures in
-    record { told = rw (c.written_says.ensures, w.told); bytes = w.bytes }
