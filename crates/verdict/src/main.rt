@@ -1,38 +1,56 @@
 // One dossier on standard input, one line on standard output: cheapest and the cost, none, or refused, paper and number.
 #![tactic(auto)]
 
-ghost use Rattle.std.specs.Prelude.{◌≤◌, Some, length};
+ghost use Rattle.std.specs.Prelude.{◌≡◌, ◌≤◌, ◌+◌, ◌++◌, decimal, length};
+ghost use Rattle.arrayvec.specs.ArrayString.{array_string_len};
 ghost use Rattle.notes.specs.Check.{checked_of};
-ghost use Rattle.verdict.specs.Line.{line};
+ghost use Rattle.verdict.specs.Line.{line, line_bytes, most_digits};
 
+use arrayvec::ArrayString;
 use basics::Refusal;
 use dossiers::checking::check_dossier;
+use itoa::Buffer;
 use placing::Claim;
-use std::fmt;
 use std::io::{Input, Read, Write};
 
 // A byte more than any dossier has: input that fills it is too long, whatever follows.
 const INPUT_CELLS: usize = dossiers::limits::MAX_DOSSIER + 1;
 
-// What was answered, which is shown as the line that is written for it.
-#[derive(Clone, Copy)]
-struct Said(Result<Claim, Refusal>);
+// Enough for the longest line, refused and two numbers.
+const LINE_BYTES: usize = 32;
 
-impl fmt::Display for Said {
-    ghost output = { λ said. Some (line (checked_of said.0)) };
+// The line with a number behind it.
+fn push_number(line: &mut ArrayString<LINE_BYTES>, number: u32)
+    requires { array_string_len line.old + most_digits ≤ line_bytes }
+    ensures bytes { line.new.bytes ≡ line.old.bytes ++ decimal number }
+    ensures few { array_string_len line.new ≤ array_string_len line.old + most_digits }
+{
+    line.push_str(Buffer::new().format(number));
+}
 
-    #[tactic(auto, unfolding(crate::specs::Line::line))]
-    fn fmt<W: fmt::Write>(&self, f: &mut fmt::Formatter<W>) -> fmt::Result {
-        match self.0 {
-            Ok(Some(cost)) => write!(f, "cheapest {cost}\n"),
-            Ok(None) => write!(f, "none\n"),
-            Err(refusal) => {
-                let paper = refusal.paper.number();
-                let number = refusal.fault.number();
-                write!(f, "refused {paper} {number}\n")
-            }
+// No `Display`: what one promises holds only where it does not fail, and every answer has its line.
+// The line that is written for an answer. It needs no heap.
+#[tactic(auto, using(crate::proofs::LineLaws::line_laws))]
+fn line_of(answer: Result<Claim, Refusal>) -> ArrayString<LINE_BYTES>
+    ensures { result.bytes ≡ line (checked_of answer) }
+{
+    let mut line = ArrayString::new();
+    match answer {
+        Ok(Some(cost)) => {
+            line.push_str("cheapest ");
+            push_number(&mut line, cost);
+            line.push_str("\n");
+        }
+        Ok(None) => line.push_str("none\n"),
+        Err(refusal) => {
+            line.push_str("refused ");
+            push_number(&mut line, refusal.paper.number());
+            line.push_str(" ");
+            push_number(&mut line, refusal.fault.number());
+            line.push_str("\n");
         }
     }
+    line
 }
 
 // A `while`, since each read says how far it went.
@@ -53,7 +71,6 @@ fn read_full<R: Read>(input: &mut R, table: &mut [u8]) -> usize
 fn main(rt: HostRuntime) -> std::io::Result<()> {
     let mut input = [0u8; INPUT_CELLS];
     let n = read_full(&mut rt.reader(), &mut input);
-    let said = Said(check_dossier(&input[..n]));
-    let line = format!(in rt.alloc(); "{said}")?;
-    std::io::writer(&rt).write_all(line.as_bytes())
+    let line = line_of(check_dossier(&input[..n]));
+    std::io::writer(&rt).write_all(line.as_str().as_bytes())
 }
