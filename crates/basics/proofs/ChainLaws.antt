@@ -5,9 +5,7 @@ use mathlib.Core.Bool.{Bool, true, false, ◌&&◌, ◌||◌}
 use mathlib.Core.List.{List, [], map, ◌∷◌, ◌++◌}
 use native.Mathlib.Nat.{add-zero, zero-add}
 use native.Mathlib.Omega.{arith}
-use borrow.Author.Tests.{leb-true, le-leb, eq-eqb, lt-ltb, le-ltb}
-use lib.Dec.{leb, eqb}
-use lib.ListN.{length, get_or, take, drop, length-take, length-drop, get_or-eq_default}
+use lib.ListN.{get_or}
 use lib.Seq.{ext_get_or}
 use native.Mathlib.Decide.{dec_lt}
 use denote.Param.Members.{Mut}
@@ -26,14 +24,11 @@ use Rattle.std.proofs.iter.Yields.{nat_range_steps}
 use Rattle.std.proofs.lemmas.Iterator.{YieldsList, YieldsList-from_range, YieldsList-from_map, maps}
 use Rattle.std.proofs.lemmas.Iterator.Consumers.{YieldsList-at, sum_by_from_yields_List, fits_by_from_yields_list}
 use Rattle.std.proofs.lemmas.Iterator.Search.{all_from_yields_List, any_from_yields_List}
-use Rattle.std.proofs.lemmas.List.{get_or-take, get_or-drop}
-use Rattle.std.proofs.lemmas.List.Elements.{All-get_or, All-from_get_or}
 use Rattle.std.proofs.lemmas.List.Folds.{list_all-append, list_any-append}
-use Rattle.std.proofs.lemmas.List.Sums.{sum_by_push, AllPass-from_list_all, list_all-from_AllPass}
+use Rattle.std.proofs.lemmas.List.Sums.{sum_by_push}
 use Rattle.basics.specs.Counting.{all_to, any_to, sum_to}
-use Rattle.basics.specs.Tables.{cell, cells, within, blank, cell_blank}
-use Rattle.basics.proofs.CountLaws.{same_test, each-all_to}
-use Rattle.basics.proofs.TableLaws.{length-cells, cell-cells, within-each, each_within, blank-each}
+use Rattle.basics.specs.Tables.{cells}
+use Rattle.basics.proofs.TableLaws.{length-cells, cell-cells}
 
 -- ---- the numbers below n, from the front
 
@@ -124,39 +119,3 @@ module _ {F : Type 0} {g : Mut F (ℕ × Unit {0}) ℕ} {f : F} (h : ℕ → ℕ
       ext_get_or 0 ys (cells h n n) (made.long ∙ sym (length-cells h n n))
       (λ i m. let l : i < n = rw made.long at m in
       made-each ys 0 n f refl (omega arith) made.each i (omega arith) (omega arith) ∙ sym (cell-cells h n n i l (omega arith)))
-
--- ---- over a table
-
-pub each-list_all : {X : Type 0} (test : X → Bool) (xs : List X) (d : X) → ((i : ℕ) → i < length xs → test (get_or xs i d) ≡ true) → list_all test xs ≡ true
-each-list_all test xs d h = list_all-from_AllPass test xs (All-from_get_or (λ x. test x ≡ true) xs d h)
-
-pub list_all-each : {X : Type 0} (test : X → Bool) (xs : List X) (d : X) → list_all test xs ≡ true → (i : ℕ) → i < length xs → test (get_or xs i d) ≡ true
-list_all-each test xs d h i l = All-get_or (λ x. test x ≡ true) xs i d l (AllPass-from_list_all test xs h)
-
-pub within-taken : (table : List ℕ) (limit n : ℕ) → within table limit n ≡ list_all (λ x. leb x limit) (take n table)
-within-taken table limit n =
-    same_test _ _
-    (λ t. each-list_all (λ x. leb x limit) (take n table) 0 (λ i l.
-    let m : i < n = omega (arith, length-take n table) in
-    rw (get_or-take n table i 0 m) (le-leb _ _ (within-each table limit n t i m))))
-    (λ t. each_within table limit n (λ i l. at t i l (dec_lt i (length table))))
-  where
-    at : list_all (λ x. leb x limit) (take n table) ≡ true → (i : ℕ) → i < n → Dec (i < length table) → cell table i ≤ limit
-    at t i l (yes m) =
-        rw (get_or-take n table i 0 l) at (leb-true _ _ (list_all-each (λ x. leb x limit) (take n table) 0 t i (omega (arith, length-take n table))))
-    at t i l (no m) = rw (get_or-eq_default table 0 (let q : length table ≤ i = omega arith in q)) (omega arith)
-
-pub blank-skipped : (table : List ℕ) (n : ℕ) → blank table n ≡ list_all (λ x. eqb x 0) (drop n table)
-unfolding blank
-blank-skipped table n =
-    same_test _ _
-    (λ t. each-list_all (λ x. eqb x 0) (drop n table) 0 (λ i l.
-    rw (get_or-drop n table i 0) (eq-eqb _ _ (blank-each table n t (n + i) (omega arith) (omega (arith, length-drop n table))))))
-    (λ t. each-all_to (cell_blank table n) (length table) (λ i l. at t i l (dec_lt i n)))
-  where
-    at : list_all (λ x. eqb x 0) (drop n table) ≡ true → (i : ℕ) → i < length table → Dec (i < n) → cell_blank table n i ≡ true
-    at t i l (yes m) = rw (lt-ltb i n m)
-    at t i l (no m) =
-        let e : n + (i - n) ≡ i = omega arith in
-        rw (le-ltb i n (omega arith))
-        (rw (get_or-drop n table (i - n) 0, e) at (list_all-each (λ x. eqb x 0) (drop n table) 0 t (i - n) (omega (arith, length-drop n table))))

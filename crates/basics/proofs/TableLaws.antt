@@ -1,5 +1,5 @@
 -- Laws of tables: one cell more, what stands in each cell, and when a table is `cells` of what it holds.
-use Prim.Native.Nat.{ℕ, zero, suc, ◌<◌, ◌≤◌}
+use Prim.Native.Nat.{ℕ, zero, suc, ◌+◌, ◌-◌, ◌<◌, ◌≤◌, min}
 use mathlib.Core.Path.{◌≡◌, refl, sym, ◌∙◌}
 use mathlib.Core.Bool.{true}
 use mathlib.Core.List.{List}
@@ -8,6 +8,7 @@ use native.Mathlib.Omega.{arith}
 use borrow.Author.Tests.{leb-true, eqb-true, le-leb, lt-leb, lt-ltb, le-ltb}
 use lib.ListN.{length, replicate, length-set, length-replicate, get_or-eq_default}
 use lib.Seq.{get_or-set_same, get_or-set_other, ext_get_or}
+use Rattle.std.proofs.lemmas.List.{set_past}
 use Rattle.basics.specs.Tables.{cell, filled, cells, cell_within, within, cell_blank, blank, HoldsCells}
 use Rattle.basics.proofs.CountLaws.{all_to-each, each-all_to}
 
@@ -52,6 +53,23 @@ pub cells-cong : (f g : ℕ → ℕ) (n size : ℕ) → ((i : ℕ) → i < n →
 unfolding filled
 cells-cong f g zero size h = refl
 cells-cong f g (suc n) size h = rw (cells-cong f g n size (λ i l. h i (omega arith)), h n (omega arith))
+
+-- what is filled behind the table's end is lost
+filled-past : (table : List ℕ) (f : ℕ → ℕ) (n k : ℕ) → length table ≤ n → filled table f (k + n) ≡ filled table f n
+unfolding filled
+filled-past table f n zero h = let z : 0 + n ≡ n = omega arith in rw z
+filled-past table f n (suc k) h =
+    let z : suc k + n ≡ suc (k + n) = omega arith in
+    rw z (set_past (filled table f (k + n)) (k + n) (f (k + n)) (omega (arith, length-filled table f (k + n))) ∙ filled-past table f n k h)
+
+pub cells-min : (f : ℕ → ℕ) (n size : ℕ) → filled (replicate size 0) f (min n size) ≡ cells f n size
+cells-min f n size =
+    elim (dec_lt size n) [
+      | yes l ↦ let e : min n size ≡ size = omega arith in
+          let z : n - size + size ≡ n = omega arith in
+          rw (e, ← z) (sym (filled-past (replicate size 0) f size (n - size) (omega (arith, length-replicate {A = ℕ} size 0))))
+      | no l ↦ let e : min n size ≡ n = omega arith in rw e
+    ]
 
 -- ---- what is asked of a table
 

@@ -22,16 +22,27 @@ pub fn cells<const N: usize, F: Fn(usize) -> u16>(count: usize, f: F) -> [u16; N
     table
 }
 
+// These two go over every cell, where a chain would stop at the first that fails: so they are compiled into vector instructions.
 /// The first n cells are at most the limit.
+#[tactic(auto, using(crate::proofs::CountLaws::count_laws), unfolding(crate::specs::Tables::within))]
 pub fn within(table: &[u16], limit: u16, n: usize) -> bool
     ensures { result ≡ within_of table.now limit n }
 {
-    table.iter().take(n).all(|x| *x <= limit)
+    let mut ok = true;
+    for i in 0..table.len() {
+        ok &= (n <= i) | (table[i] <= limit);
+    }
+    ok
 }
 
 /// The cells behind the first n are 0.
+#[tactic(auto, using(crate::proofs::CountLaws::count_laws), unfolding(crate::specs::Tables::blank))]
 pub fn blank(table: &[u16], n: usize) -> bool
     ensures { result ≡ blank_of table.now n }
 {
-    table.iter().skip(n).all(|x| *x == 0)
+    let mut ok = true;
+    for i in 0..table.len() {
+        ok &= (i < n) | (table[i] == 0);
+    }
+    ok
 }

@@ -27,7 +27,9 @@ use Rattle.placing.specs.Closing.{Claim, Turn, goes, stops, and_then, goes_if}
 use Rattle.placing.specs.Options.{none}
 use Rattle.placing.specs.declared.Board.{Board}
 use Rattle.placing.proofs.BoardLaws.{board-read}
-use Rattle.notes.specs.Check.{Claims, Unclaimed, asked}
+use Rattle.notes.specs.Check.{Claims, asked, papers_of}
+use Rattle.notes.specs.declared.Asked.{Asked}
+use Rattle.notes.proofs.AskLaws.{papers-claimed, papers-refused}
 use Rattle.notes.specs.NoteSheet.{note_form, verdict_bits, note_head, split_bits, max_note, head_fields, marks}
 use Rattle.house.specs.House.{house_tree_of, house_fields, room_of, paper_if, stopped_by, written_by, out_by, write_claim, claim_out, write_note, note_out}
 use Rattle.house.specs.Writing.{Draft, draft, drafted, write_at, draft_from, draft_end, InOrder, Drafts}
@@ -137,17 +139,17 @@ module _ (j : Job) (was : WasRead j) (claim : Claim) (out : List ℕ) {room : �
 
 -- ---- the writer, as it is claimed
 
-module _ (job plan out : List ℕ) where
-  pub write-claimed : (claim : Claim) (j : Job) → asked job plan ≡ record { claimed = Claims claim; job = j } → {r : Written} {out' : List ℕ}
-      → Promise (write_claim (Claims claim) j (length out)) (claim_out (Claims claim) j out) r out'
+module _ (job plan out : List ℕ) (a : Asked) (e : papers_of a ≡ asked job plan) where
+  pub write-claimed : (claim : Claim) → a.claimed ≡ Ok claim → {r : Written} {out' : List ℕ}
+      → Promise (write_claim (Claims claim) a.job (length out)) (claim_out (Claims claim) a.job out) r out'
       → Promise (write_note job plan (length out)) (note_out job plan out) r out'
   unfolding write_note note_out
-  write-claimed claim j e w = rw e w
+  write-claimed claim h w = rw (papers-claimed a (asked job plan) e claim h) w
 
-  pub write-unclaimed : (r : Refusal) → (asked job plan).claimed ≡ Unclaimed (number_of r.fault) (paper_of r.paper)
+  pub write-unclaimed : (r : Refusal) → a.claimed ≡ Err r
       → Promise (write_note job plan (length out)) (note_out job plan out) (Refused (number_of r.fault) (paper_of r.paper)) out
   unfolding write_note note_out write_claim claim_out
-  write-unclaimed r e = rw e (record { told = refl; bytes = refl })
+  write-unclaimed r h = rw (papers-refused a (asked job plan) e r h) (record { told = refl; bytes = refl })
 
 -- ---- the fault of an output that is too short
 

@@ -79,6 +79,7 @@ fn write_claim(job: &Job, claim: Claim, out: &mut [u8]) -> Result<u32, Refusal>
 pub fn write_note(job: &[u8], plan: &[u8], out: &mut [u8]) -> Result<u32, Refusal>
     ensures { Promise (write_note job.now plan.now (length out.old)) (note_out job.now plan.now out.old) (written_of result) out.new }
 {
-    let asked = ask(job, plan)?;
-    write_claim(&asked.job, asked.claim, out)
+    let asked = ask(job, plan);
+    let claim = asked.claimed?;
+    write_claim(&asked.job, claim, out)
 }

@@ -62,7 +62,14 @@ fn slide_plan(job: &Job, plan: &Plan, distance: i32, out: &mut [u8]) -> Result<u
     }
     let starts = moved_starts(distance as i16, plan);
     let types = types_in(&job.copies, job.m);
-    let timing = timing_in(job, &types, &plan.insts);
+    let timing = timing_in(
+        &types,
+        job.clock,
+        &job.kinds,
+        &job.times,
+        &job.intervals,
+        &plan.insts,
+    );
     if !keeps(plan.n, job.t, &starts, &timing.delays) {
         return Err(Refusal {
             fault: Fault::MovedOut,
@@ -76,6 +83,7 @@ fn slide_plan(job: &Job, plan: &Plan, distance: i32, out: &mut [u8]) -> Result<u
 pub fn slide(job: &[u8], plan: &[u8], distance: i32, out: &mut [u8]) -> Result<u32, Refusal>
     ensures { Promise (slide_of job.now plan.now distance (length out.old)) (slide_out job.now plan.now distance out.old) (written_of result) out.new }
 {
-    let lent = lend(true, job, plan)?;
+    let lent = lend(true, job, plan);
+    lent.judged?;
     slide_plan(&lent.job, &lent.plan, distance, out)
 }

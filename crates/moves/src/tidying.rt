@@ -92,6 +92,7 @@ fn tidied(job: &Job, plan: &Plan) -> Plan
 pub fn tidy(job: &[u8], plan: &[u8], out: &mut [u8]) -> Result<u32, Refusal>
     ensures { Promise (tidy_of job.now plan.now (length out.old)) (tidy_out job.now plan.now out.old) (written_of result) out.new }
 {
-    let lent = lend(false, job, plan)?;
+    let lent = lend(false, job, plan);
+    lent.judged?;
     write_plan(&tidied(&lent.job, &lent.plan), out)
 }

@@ -8,13 +8,13 @@ use Rattle.std.specs.Prelude.{Result, Ok, Err}
 use Rattle.basics.specs.Faults.{number_of, paper_of}
 use Rattle.basics.specs.declared.refusals.Refusal.{Refusal}
 use Rattle.basics.proofs.AnswerLaws.{refusal-one}
-use Rattle.sheets.specs.JobSheet.{JobRead, read_job, job_read_of}
+use Rattle.sheets.specs.JobSheet.{no_job, read_job, job_read_of}
 use Rattle.sheets.specs.PlanSheet.{read_plan, plan_read_of}
 use Rattle.sheets.specs.declared.Job.{Job}
 use Rattle.sheets.specs.declared.Plan.{Plan}
 use Rattle.rules.specs.Judge.{judged, judged_of}
 use Rattle.placing.specs.Closing.{Claim}
-use Rattle.notes.specs.Check.{Claims, Unclaimed, plan_claim, no_claim, claim_by, if_read, if_lent, claim_of, AskedPapers, asked, claimed_of, Asks}
+use Rattle.notes.specs.Check.{Claims, Unclaimed, plan_claim, no_claim, claim_by, if_read, if_lent, claim_of, AskedPapers, asked, claimed_of, papers_of}
 use Rattle.notes.specs.declared.Asked.{Asked}
 
 -- ---- of a job that was read
@@ -43,32 +43,35 @@ pub ruleset claim_laws = (none_lent, plan-unread, plan-refused, plan-claimed)
 -- ---- of the two papers
 
 module _ (job plan : List ℕ) where
-  pub job-unread : (r : Refusal) → job_read_of (Err r) ≡ read_job job → (asked job plan).claimed ≡ Unclaimed (number_of r.fault) (paper_of r.paper)
+  pub job-unread : (r : Refusal) → job_read_of (Err r) ≡ read_job job → papers_of (record { claimed = Err r; job = no_job }) ≡ asked job plan
   unfolding asked if_read
   job-unread r e = rw (← e) refl
 
-  module _ (j : Job) (ej : job_read_of (Ok j) ≡ read_job job) where
-    pub job-unclaimed : (r : Refusal) → claimed_of (Err r) ≡ claim_of j plan → (asked job plan).claimed ≡ Unclaimed (number_of r.fault) (paper_of r.paper)
-    unfolding asked if_read
-    job-unclaimed r e = rw (← ej) (sym e)
+  pub job-asked : (j : Job) → job_read_of (Ok j) ≡ read_job job → (r : Result Claim Refusal) → claimed_of r ≡ claim_of j plan
+      → papers_of (record { claimed = r; job = j }) ≡ asked job plan
+  unfolding asked if_read
+  job-asked j ej r e = rw (← ej) (λ i. record { claimed = e i; job = j })
 
-    pub job-claimed : (claim : Claim) → claimed_of (Ok claim) ≡ claim_of j plan → asked job plan ≡ record { claimed = Claims claim; job = j }
-    unfolding asked if_read
-    job-claimed claim e =
-        let v : (asked job plan).claimed ≡ Claims claim = rw (← ej) (sym e) in
-        let k : (read_job job).job ≡ j = sym (ap (λ (r : JobRead). r.job) ej) in
-        λ i. record { claimed = v i; job = k i }
+pub ruleset ask_laws = (job-unread, job-asked)
 
-pub ruleset ask_laws = (job-unread, job-unclaimed, job-claimed)
+-- what stands beside the job: a claim, or a refusal
+module _ (a : Asked) (papers : AskedPapers) (e : papers_of a ≡ papers) where
+  pub papers-claimed : (claim : Claim) → a.claimed ≡ Ok claim → papers ≡ record { claimed = Claims claim; job = a.job }
+  papers-claimed claim h = sym e ∙ (λ i. record { claimed = claimed_of (h i); job = a.job })
 
--- what is asked leaves one answer
-pub one_asked : (a : AskedPapers) (r r' : Result Asked Refusal) → Asks a r → Asks a r' → r ≡ r'
-one_asked a (Ok x) (Ok y) e f =
-    let q = sym e ∙ f in
-    let v = ap (λ (z : AskedPapers). z.claimed) q in
-    let c : x.claim ≡ y.claim = cc in
-    let j : x.job ≡ y.job = ap (λ (z : AskedPapers). z.job) q in
-    λ i. Ok (record { claim = c i; job = j i })
-one_asked a (Ok x) (Err r) e f = let v = sym (ap (λ (z : AskedPapers). z.claimed) e) ∙ f in cc
-one_asked a (Err r) (Ok x) e f = let v = sym (ap (λ (z : AskedPapers). z.claimed) f) ∙ e in cc
-one_asked a (Err r) (Err r') e f = let v = sym e ∙ f in ap (λ (x : Refusal). Err x) (refusal-one r r' (cc) (cc))
+  pub papers-refused : (r : Refusal) → a.claimed ≡ Err r → papers.claimed ≡ Unclaimed (number_of r.fault) (paper_of r.paper)
+  papers-refused r h = sym (ap (λ (p : AskedPapers). p.claimed) e) ∙ ap claimed_of h
+
+-- ---- results that the definitions call alike are equal
+
+one-claimed : (r r' : Result Claim Refusal) → claimed_of r ≡ claimed_of r' → r ≡ r'
+one-claimed (Ok c) (Ok d) e = let w : c ≡ d = cc in ap (λ (x : Claim). Ok x) w
+one-claimed (Ok c) (Err r) e = cc
+one-claimed (Err r) (Ok d) e = cc
+one-claimed (Err r) (Err r') e = ap (λ (x : Refusal). Err x) (refusal-one r r' (cc) (cc))
+
+pub one_asked : (a a' : Asked) → papers_of a ≡ papers_of a' → a ≡ a'
+one_asked a a' e =
+    let c = one-claimed a.claimed a'.claimed (ap (λ (p : AskedPapers). p.claimed) e) in
+    let j = ap (λ (p : AskedPapers). p.job) e in
+    λ i. record { claimed = c i; job = j i }

@@ -7,7 +7,9 @@ use mathlib.Core.List.{List}
 use borrow.Author.Tests.{leb-true}
 use lib.Dec.{lit<}
 use lib.ListN.{length}
-use Rattle.std.specs.Prelude.{Result, Ok, Err, Some, None, is_some}
+use Rattle.std.specs.Prelude.{Result, Ok, Err, IfOk, IfErr, Some, None, is_some}
+use Rattle.basics.specs.Answers.{refused_says}
+use Rattle.basics.specs.declared.Answer.{Answer}
 use Rattle.basics.specs.Faults.{number_of, paper_of}
 use Rattle.basics.specs.Numbers.{note_long, paper_note}
 use Rattle.basics.specs.declared.refusals.Fault.{Fault}
@@ -17,15 +19,16 @@ use Rattle.basics.proofs.FaultLaws.{or_else-go, or_else-none, fault-stops, unles
 use Rattle.sheets.specs.Answers.{Read}
 use Rattle.sheets.specs.Groups.{fill_fault}
 use Rattle.sheets.proofs.GroupLaws.{none-whole}
-use Rattle.sheets.specs.declared.Job.{Job}
 use Rattle.placing.specs.Board.{WasRead, board_of}
 use Rattle.placing.specs.Closing.{Claim, Turn, goes, stops}
 use Rattle.placing.specs.Options.{none}
 use Rattle.placing.specs.declared.Board.{Board}
 use Rattle.notes.specs.NoteSheet.{note_head, split_bits, max_note}
 use Rattle.notes.specs.Reading.{place_at}
-use Rattle.notes.specs.Check.{Claims, Unclaimed, Refused, AskedPapers, asked, head_fault, tree_fault, note_fault, accepted, checked, check_claim, check_note, checked_of}
+use Rattle.notes.specs.Check.{Refused, AskedPapers, asked, papers_of, head_fault, tree_fault, note_fault, accepted, checked, check_claim, check_note, checked_of, checked_says}
+use Rattle.notes.proofs.AskLaws.{papers-claimed, papers-refused}
 use Rattle.notes.proofs.ClaimLaws.{asked-read}
+use Rattle.notes.specs.declared.Asked.{Asked}
 use Rattle.notes.proofs.ReadLaws.{read-inside}
 
 -- ---- a note against a claim
@@ -61,30 +64,31 @@ module _ (b : Board) (claim : Claim) (note : List ℕ) where
 
 -- ---- the check, as it is claimed
 
-module _ (job plan : List ℕ) where
-  pub claim-read : (claim : Claim) (j : Job) → asked job plan ≡ record { claimed = Claims claim; job = j } → WasRead j
-  claim-read claim j e =
-      record { sheet = job; read = asked-read job plan claim (ap (λ (x : AskedPapers). x.claimed) e) ∙ ap (λ (x : AskedPapers). record { answer = Read; job = x.job }) e }
+module _ (job plan : List ℕ) (a : Asked) (e : papers_of a ≡ asked job plan) where
+  pub claim-read : (claim : Claim) → a.claimed ≡ Ok claim → WasRead a.job
+  claim-read claim h =
+      let w = papers-claimed a (asked job plan) e claim h in
+      record { sheet = job; read = asked-read job plan claim (ap (λ (x : AskedPapers). x.claimed) w) ∙ ap (λ (x : AskedPapers). record { answer = Read; job = x.job }) w }
 
   module _ (note : List ℕ) where
-    pub not-asked : (r : Refusal) → (asked job plan).claimed ≡ Unclaimed (number_of r.fault) (paper_of r.paper) → Refused (number_of r.fault) (paper_of r.paper) ≡ check_note job plan note
+    pub not-asked : (r : Refusal) → a.claimed ≡ Err r → checked_of (Err r) ≡ check_note job plan note
     unfolding check_note check_claim
-    not-asked r e = rw e
+    not-asked r h = rw (papers-refused a (asked job plan) e r h)
 
-    module _ (claim : Claim) (j : Job) (e : asked job plan ≡ record { claimed = Claims claim; job = j }) where
-      checked-at : (fault : ℕ) → fault ≡ note_fault (board_of j) claim note → checked fault claim ≡ check_note job plan note
+    module _ (claim : Claim) (h : a.claimed ≡ Ok claim) where
+      checked-at : (fault : ℕ) → fault ≡ note_fault (board_of a.job) claim note → checked fault claim ≡ check_note job plan note
       unfolding check_note check_claim
-      checked-at fault f = rw (e, f)
+      checked-at fault f = rw (papers-claimed a (asked job plan) e claim h, f)
 
-      pub note-refused : (fault : Fault) → number_of fault ≡ note_fault (board_of j) claim note → Refused (number_of fault) paper_note ≡ check_note job plan note
+      pub note-refused : (fault : Fault) → number_of fault ≡ note_fault (board_of a.job) claim note → Refused (number_of fault) paper_note ≡ check_note job plan note
       unfolding checked
       note-refused fault f = go (number_of fault) (number-some fault) f
         where
-          go : (k : ℕ) → (k ≡ 0 → ⊥) → k ≡ note_fault (board_of j) claim note → Refused k paper_note ≡ check_note job plan note
+          go : (k : ℕ) → (k ≡ 0 → ⊥) → k ≡ note_fault (board_of a.job) claim note → Refused k paper_note ≡ check_note job plan note
           go zero h f = absurd (h refl)
           go (suc k) h f = checked-at (suc k) f
 
-      pub note-accepted : 0 ≡ note_fault (board_of j) claim note → checked_of (Ok claim) ≡ check_note job plan note
+      pub note-accepted : 0 ≡ note_fault (board_of a.job) claim note → checked_of (Ok claim) ≡ check_note job plan note
       unfolding checked accepted
       note-accepted f = says claim ∙ checked-at 0 f
         where
@@ -93,6 +97,15 @@ module _ (job plan : List ℕ) where
           says None = refl
 
 pub ruleset check_laws = (not-asked, note-refused, note-accepted)
+
+-- ---- what an answer says of a result, where a refusal is converted
+
+pub checked-said : (r : Result Claim Refusal) (a : Answer) → IfOk r (λ claim. a ≡ checked_says (accepted claim))
+    → IfErr r (λ x. a ≡ refused_says (number_of x.fault) (paper_of x.paper)) → a ≡ checked_says (checked_of r)
+unfolding accepted
+checked-said (Ok (Some cost)) a p q = p
+checked-said (Ok None) a p q = p
+checked-said (Err x) a p q = q
 
 -- ---- results that the definitions call alike are equal
 

@@ -1,7 +1,7 @@
 -- What the proof of the reader needs: the ways a place goes on from its mark.
 use Prim.Native.Nat.{ℕ, zero, suc, ◌+◌, ◌-◌, ◌*◌, ◌≤◌, ◌<◌}
 use mathlib.Core.Path.{◌≡◌, refl, sym, ap, ◌∙◌}
-use mathlib.Core.Bool.{Bool, true, false, not, ◌&&◌}
+use mathlib.Core.Bool.{Bool, true, false, not, ◌&&◌, ◌||◌}
 use mathlib.Core.List.{List}
 use native.Mathlib.Omega.{arith}
 use borrow.Author.Tests.{ne_eqb, eqb-true, leb-true, ltb-true, ltb-false, not-true}
@@ -19,11 +19,19 @@ use Rattle.sheets.specs.Groups.{runs_out}
 use Rattle.sheets.proofs.GroupLaws.{none-whole}
 use Rattle.rules.specs.Rules.{placed}
 use Rattle.placing.specs.Closing.{Claim, Turn, goes, stops, goes_if, in_turn, closable, choice, unplaced, split_on}
+use Rattle.placing.specs.Fitting.{fits, fits_on, free_on, links_on}
 use Rattle.placing.specs.Placing.{Placing}
 use Rattle.placing.specs.declared.Board.{Board}
 use Rattle.notes.specs.NoteSheet.{mark_bits}
-use Rattle.notes.specs.Reading.{splits, closes, split_op, split_end, fault_if, mark_fault, unless_fault, marked, place, place_at, turn_of}
+use Rattle.notes.specs.Reading.{splits, closes, split_op, split_end, fault_if, mark_fault, unless_fault, marked, place, place_at, turn_of, closed_by}
 use Rattle.notes.proofs.TreeLaws.{place-tree}
+
+-- ---- a place that is closed, or refused
+
+pub closed-turn : (may : Bool) (fault : Fault) (at : ℕ) {r : Result ℕ Fault} → r ≡ closed_by may fault at → turn_of r ≡ goes_if may (number_of fault) at
+unfolding closed_by goes_if
+closed-turn true fault at e = ap turn_of e
+closed-turn false fault at e = ap turn_of e
 
 -- ---- an operation to split on
 
@@ -102,6 +110,16 @@ once-read note w b claim p at may some h =
 -- the code's test of whether links are settled
 pub settles : (reach op first s : ℕ) → leb reach op && ltb first s ≡ true → (reach ≤ op) × (first < s)
 settles reach op first s h = let w = and_both (leb reach op) (ltb first s) h in (leb-true reach op w.0, ltb-true first s w.1)
+
+-- the test of a row is that of the instance, and then that of links
+module _ (b : Board) (p : Placing) (settled : Bool) (reach op s i : ℕ) {free : Bool} (e : free ≡ free_on b p reach op s i) where
+  pub taken-fits : free ≡ false → free ≡ fits_on b p settled reach op s i
+  unfolding fits
+  taken-fits h = h ∙ sym (ap (λ (x : Bool). x && (settled || links_on b p reach op s i)) (sym e ∙ h))
+
+  pub kept-fits : free ≡ true → {kept : Bool} → kept ≡ settled || links_on b p reach op s i → kept ≡ fits_on b p settled reach op s i
+  unfolding fits
+  kept-fits h k = k ∙ sym (ap (λ (x : Bool). x && (settled || links_on b p reach op s i)) (sym e ∙ h))
 
 -- there is no fault exactly where the code's result is Ok
 pub ok-sound : {A : Type 0} (r : Result A Fault) → is_ok r ≡ eqb (fault_in r) 0

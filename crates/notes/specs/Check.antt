@@ -1,6 +1,6 @@
 -- What the check of a note answers for any bytes: `check_note`; `checked_says` gives each case in numbers. `asked` is what is claimed of
 -- a job, which the house writer asks too.
-use Rattle.std.specs.Prelude.{ℕ, zero, suc, ◌≡◌, Bool, true, false, List, Result, Ok, Err, Some, None, is_some, leb, eqb, length}
+use Rattle.std.specs.Prelude.{ℕ, zero, suc, Bool, true, false, List, Result, Ok, Err, Some, None, is_some, leb, eqb, length}
 use Rattle.basics.specs.Answers.{refused_says}
 use Rattle.basics.specs.Counting.{only}
 use Rattle.basics.specs.Faults.{◌or_else◌, fault_unless, number_of, paper_of}
@@ -110,10 +110,8 @@ abbrev pub claimed_of : Result Claim Refusal → Claimed
 claimed_of (Ok claim) = Claims claim
 claimed_of (Err r) = Unclaimed (number_of r.fault) (paper_of r.paper)
 
--- where there is a claim the code has the job beside it; else it has the refusal alone
-abbrev pub Asks : AskedPapers → Result Asked Refusal → Type 0
-Asks a (Ok x) = a ≡ record { claimed = Claims x.claim; job = x.job }
-Asks a (Err r) = a.claimed ≡ Unclaimed (number_of r.fault) (paper_of r.paper)
+abbrev pub papers_of : Asked → AskedPapers
+papers_of a = record { claimed = claimed_of a.claimed; job = a.job }
 
 abbrev pub checked_of : Result Claim Refusal → Checked
 checked_of (Ok (Some cost)) = Cheapest cost

@@ -63,3 +63,8 @@ place_at note w b claim d p at = place note w Placing (closable b claim) (choice
 abbrev pub turn_of : Result ℕ Fault → Turn ℕ
 turn_of (Ok at) = goes at
 turn_of (Err fault) = stops (number_of fault)
+
+-- closed before bit `at`, or refused by the fault where that is not allowed: of a `Fault`, the result of `goes_if` (`closed-turn`)
+unfoldable pub closed_by : {F : Type 0} → Bool → F → ℕ → Result ℕ F
+closed_by true fault at = Ok at
+closed_by false fault at = Err fault

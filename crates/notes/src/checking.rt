@@ -1,8 +1,8 @@
 // The check of a closing note: the job and the plan beside it are judged, and then the note is read.
-ghost use Rattle.std.specs.Prelude.{◌≡◌};
+ghost use Rattle.std.specs.Prelude.{◌≡◌, IfOk, IfErr};
 ghost use Rattle.basics.specs.Faults.{fault_in};
 ghost use Rattle.placing.specs.Board.{WasRead, board_of};
-ghost use Rattle.notes.specs.Check.{head_fault, note_fault, checked_of, check_note, checked_says as says_of};
+ghost use Rattle.notes.specs.Check.{head_fault, note_fault, accepted, checked_of, check_note, checked_says as says_of};
 
 use crate::claims::ask;
 use crate::limits::*;
@@ -48,15 +48,19 @@ fn note_fault(job: &Job, claim: Claim, note: &[u8]) -> Result<(), Fault>
 pub fn check_note(job: &[u8], plan: &[u8], note: &[u8]) -> Result<Claim, Refusal>
     ensures { checked_of result ≡ check_note job.now plan.now note.now }
 {
-    let asked = ask(job, plan)?;
-    blame(Paper::Note, note_fault(&asked.job, asked.claim, note))?;
-    Ok(asked.claim)
+    let asked = ask(job, plan);
+    let claim = asked.claimed?;
+    blame(Paper::Note, note_fault(&asked.job, claim, note))?;
+    Ok(claim)
 }
 
-// No `From`: `Result` is of std and `Answer` of basics, so none may be written here.
+// No `From`: `Result` is of std and `Answer` of basics, so none may be written here. A refusal is whatever converts to an answer, any
+// two numbers too.
 /// What the check answers.
-pub fn checked_says(answer: Result<Claim, Refusal>) -> Answer
-    ensures { result ≡ says_of (checked_of answer) }
+#[tactic(auto, unfolding(crate::specs::Check::accepted))]
+pub fn checked_says<R: Into<Answer>>(answer: Result<Claim, R>) -> Answer
+    ensures accepted { IfOk answer (λ claim. result ≡ says_of (accepted claim)) }
+    ensures refused { IfErr answer (λ refusal. R.converts refusal result) }
 {
     match answer {
         Ok(Some(cost)) => Answer {

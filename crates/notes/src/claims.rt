@@ -1,6 +1,6 @@
 // What is claimed of a job: that the plan beside it, which must pass, is a cheapest one; or, without a plan, that there is none.
 ghost use Rattle.std.specs.Prelude.{◌≡◌};
-ghost use Rattle.notes.specs.Check.{claimed_of, claim_of, Asks, asked};
+ghost use Rattle.notes.specs.Check.{claimed_of, claim_of, papers_of, asked};
 
 use crate::Asked;
 use basics::Refusal;
@@ -24,12 +24,21 @@ fn claim_of(job: &Job, plan: &[u8]) -> Result<Claim, Refusal>
     Ok(Some(cost))
 }
 
-/// What is claimed of a job's sheet, by a plan's sheet or by none of its bytes. A paper that cannot be read ends the question there.
+// A record and no `Result`, since the job stands beside a refusal too.
+/// What is claimed of a job's sheet, by a plan's sheet or by none of its bytes, and the job. A paper that cannot be read ends the
+/// question there; a job that cannot be read is zeros.
 #[tactic(auto, using(crate::proofs::AskLaws::ask_laws))]
-pub fn ask(job: &[u8], plan: &[u8]) -> Result<Asked, Refusal>
-    ensures { Asks (asked job.now plan.now) result }
+pub fn ask(job: &[u8], plan: &[u8]) -> Asked
+    ensures { papers_of result ≡ asked job.now plan.now }
 {
-    let job = read_job(job)?;
-    let claim = claim_of(&job, plan)?;
-    Ok(Asked { claim, job })
+    match read_job(job) {
+        Ok(job) => Asked {
+            claimed: claim_of(&job, plan),
+            job,
+        },
+        Err(refusal) => Asked {
+            claimed: Err(refusal),
+            job: Job::default(),
+        },
+    }
 }

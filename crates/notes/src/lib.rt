@@ -6,9 +6,9 @@ pub mod claims; // what is claimed of a job
 pub mod reading; // the tree, place by place
 pub mod checking; // the check: check_note, checked_says
 
-/// What is claimed, beside the job that it is claimed of.
+/// What is claimed, or why nothing is, beside the job that it is claimed of, as far as that was read.
 #[derive(Clone, Copy)]
 pub struct Asked {
-    pub claim: placing::Claim,
+    pub claimed: Result<placing::Claim, basics::Refusal>,
     pub job: sheets::Job,
 }

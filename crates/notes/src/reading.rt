@@ -1,11 +1,14 @@
 // The tree of a note: a place is read as a mark and then its children, each child again a place.
-ghost use Rattle.std.specs.Prelude.{◌≡◌, ◌+◌, ◌*◌, ◌<◌, ◌≤◌, ◌^◌, true, length};
-ghost use Rattle.basics.specs.Faults.{number_of, fault_in};
-ghost use Rattle.placing.specs.Closing.{goes_if, in_turn, unplaced as unplaced_in, choice, split_on};
+ghost use Rattle.std.specs.Prelude.{◌≡◌, ◌+◌, ◌*◌, ◌<◌, ◌≤◌, ◌^◌, ◌||◌, true, length};
+ghost use Rattle.basics.specs.Faults.{fault_in};
+ghost use Rattle.placing.specs.Closing.{in_turn, unplaced as unplaced_in, choice, split_on};
+ghost use Rattle.placing.specs.Board.{Leads};
+ghost use Rattle.placing.specs.Fitting.{links_on};
 ghost use Rattle.placing.specs.Options.{put};
+ghost use Rattle.sheets.specs.Limits.{op_cells};
 ghost use Rattle.placing.specs.Ready.{placing_of, option_at, Ready, Places};
 ghost use Rattle.notes.specs.NoteSheet.{split_bits, max_note};
-ghost use Rattle.notes.specs.Reading.{splits, closes, split_op, mark_fault, place_at, turn_of};
+ghost use Rattle.notes.specs.Reading.{splits, closes, split_op, mark_fault, place_at, turn_of, closed_by};
 
 use crate::limits::{MARK_BITS, SPLIT_BITS};
 use basics::{Fault, unless};
@@ -14,11 +17,11 @@ use placing::rows::Rows;
 use placing::{Board, Claim};
 use sheets::groups::runs_out;
 
-// Beside unless, since house asks it by this name, as the definitions have it (goes_if).
-/// Closed before bit `at`, or refused by the fault where that is not allowed.
-#[tactic(auto, unfolding(placing::specs::Closing::goes_if))]
-pub fn closed_if(may: bool, fault: Fault, at: usize) -> Result<usize, Fault>
-    ensures { turn_of result ≡ goes_if may (number_of fault) at }
+// Beside unless, since house asks it by this name, as the definitions have it (`closed_by`).
+/// Closed before bit `at`, or refused by the fault where that is not allowed: a number, or whatever says why.
+#[tactic(auto, unfolding(crate::specs::Reading::closed_by))]
+pub fn closed_if<F: Copy>(may: bool, fault: F, at: usize) -> Result<usize, F>
+    ensures { result ≡ closed_by may fault at }
 {
     if may { Ok(at) } else { Err(fault) }
 }
@@ -70,6 +73,22 @@ fn mark_fault(
     }
     runs_out(note.len(), at + MARK_BITS + SPLIT_BITS)?;
     unless(unplaced(n, starts, op), Fault::SplitBroken)
+}
+
+// Links are settled, or hold.
+fn links_kept(
+    board: &Board,
+    rows: &Rows,
+    settled: bool,
+    reach: usize,
+    op: usize,
+    s: u16,
+    i: usize,
+) -> bool
+    requires { (reach ≤ op_cells) × (op < op_cells) × (i < 2 ^ 16) × Leads board.now.near op }
+    ensures { result ≡ settled || links_on board.now (placing_of rows.now) reach op s i }
+{
+    settled || board.links_hold(rows, reach, op, s, i)
 }
 
 // What stays the same along a tree that is read.
@@ -141,7 +160,10 @@ impl Reader<'_> {
         for s in first..=board.t as u32 {
             let settled = (reach <= op) & (first < s);
             for i in 0..board.k as usize {
-                if !board.fits(rows, settled, reach, op, s as u16, i) {
+                if !board.free_at(rows, reach, op, s as u16, i) {
+                    continue;
+                }
+                if !links_kept(board, rows, settled, reach, op, s as u16, i) {
                     continue;
                 }
                 next = self.child(rows, next, left, reach, here, op, s as u16, i)?;

@@ -10,4 +10,4 @@ linked_from near op x m = filter (linked near op) (range_with_len x m)
 
 -- those that are left
 abbrev pub linked_left : Linked → List ℕ
-linked_left s = linked_from s.board.now.near s.op s.from (s.reach - s.from)
+linked_left s = linked_from s.near.now s.op s.from (s.reach - s.from)

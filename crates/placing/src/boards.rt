@@ -42,7 +42,8 @@ fn lasts_in(t: u16, times: &[u16], delays: &[u16]) -> [u16; UNIT_CELLS]
 fn nearer(o: usize, x: usize, far: u16, a: u16, y: u16) -> u16
     ensures { result ≡ nearer_of o x far a y }
 {
-    if a as usize == o && x <= y as usize && y < far {
+    // `&`: links come in any order, and a branch on each would be guessed wrongly
+    if (a as usize == o) & (x <= y as usize) & (y < far) {
         y
     } else {
         far

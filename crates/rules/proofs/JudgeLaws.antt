@@ -1,11 +1,13 @@
 -- Laws of the judge's answer.
 use Prim.Native.Nat.{ℕ, zero, suc}
 use mathlib.Core.Path.{◌≡◌, refl, sym, ap, ◌∙◌}
-use mathlib.Core.Bool.{Bool, true}
+use mathlib.Core.Bool.{Bool}
 use mathlib.Core.List.{List}
 use borrow.Author.Tests.{eqb-true}
 use lib.Dec.{eqb, lit<}
-use Rattle.std.specs.Prelude.{Result, Ok, Err}
+use Rattle.std.specs.Prelude.{Result, Ok, Err, IfOk, IfErr}
+use Rattle.basics.specs.Answers.{refused_says}
+use Rattle.basics.specs.declared.Answer.{Answer}
 use Rattle.basics.specs.Faults.{number_of, paper_of}
 use Rattle.basics.specs.Numbers.{counts_differ, paper_plan}
 use Rattle.basics.specs.declared.refusals.Fault.{Fault}
@@ -13,13 +15,13 @@ use Rattle.basics.specs.declared.refusals.Refusal.{Refusal}
 use Rattle.basics.proofs.AnswerLaws.{refusal-one}
 use Rattle.basics.proofs.CountLaws.{and_both}
 use Rattle.basics.proofs.FaultLaws.{number-some, or_else-none, unless-none}
-use Rattle.sheets.specs.JobSheet.{JobRead, read_job, job_read_of}
-use Rattle.sheets.specs.PlanSheet.{PlanRead, read_plan, plan_read_of}
+use Rattle.sheets.specs.JobSheet.{JobRead, no_job, read_job, job_read_of}
+use Rattle.sheets.specs.PlanSheet.{PlanRead, no_plan, read_plan, plan_read_of}
 use Rattle.sheets.specs.declared.Job.{Job}
 use Rattle.sheets.specs.declared.Plan.{Plan}
 use Rattle.rules.specs.Model.{inst_count, types_of}
 use Rattle.rules.specs.Selection.{selected, selection_cost}
-use Rattle.rules.specs.Judge.{counts_fault, fault_with, plan_cost, Passed, Refused, pass_or, judged_with, if_read, judge_with, judge, plan_beside, LentPapers, lent, judged_of, Lends}
+use Rattle.rules.specs.Judge.{counts_fault, fault_with, plan_cost, Judged, Passed, Refused, pass_or, judged_with, if_read, judge_with, plan_beside, LentPapers, lent, judged_of, judged_says, papers_of}
 use Rattle.rules.specs.declared.Lent.{Lent}
 
 pub counts-agree : (order : Bool) (j : Job) (p : Plan) → fault_with order j p ≡ 0 → (p.n ≡ j.n) × (p.k ≡ inst_count j)
@@ -52,41 +54,43 @@ pub ruleset judged_laws = (passes-at, refused-at)
 -- ---- two papers read in turn: the first that cannot be read ends the question, and where both are read the plan is judged
 
 module _ (order : Bool) (job plan : List ℕ) where
-  pub job-unread : (r : Refusal) → job_read_of (Err r) ≡ read_job job → (lent order job plan).judged ≡ Refused (number_of r.fault) (paper_of r.paper)
-  unfolding lent judge_with if_read
+  pub job-unread : (r : Refusal) → job_read_of (Err r) ≡ read_job job
+      → papers_of (record { judged = Err r; job = no_job; plan = no_plan }) ≡ lent order job plan
+  unfolding lent judge_with if_read plan_beside
   job-unread r e = rw (← e) refl
 
   module _ (j : Job) (ej : job_read_of (Ok j) ≡ read_job job) where
-    pub plan-unread : (r : Refusal) → plan_read_of (Err r) ≡ read_plan plan → (lent order job plan).judged ≡ Refused (number_of r.fault) (paper_of r.paper)
+    beside-read : (p : PlanRead) → p ≡ read_plan plan → p.plan ≡ plan_beside (read_job job).answer plan
+    unfolding plan_beside
+    beside-read p e = rw (← ej) (ap (λ (r : PlanRead). r.plan) e)
+
+    lent-as : (v : Judged) (p : PlanRead) → p ≡ read_plan plan → v ≡ if_read p.answer (judged_with order j p.plan)
+        → ◌≡◌ {A = LentPapers} (record { judged = v; job = j; plan = p.plan }) (lent order job plan)
     unfolding lent judge_with if_read
-    plan-unread r e = rw (← ej, ← e) refl
+    lent-as v p e h =
+        let w : v ≡ judge_with order job plan = rw (← ej, ← e) h in
+        let k = ap (λ (r : JobRead). r.job) ej in
+        let z = beside-read p e in
+        λ i. record { judged = w i; job = k i; plan = z i }
 
-    module _ (p : Plan) (ep : plan_read_of (Ok p) ≡ read_plan plan) where
-      pub plan-refused : (r : Refusal) → judged_of (Err r) ≡ judged_with order j p → (lent order job plan).judged ≡ Refused (number_of r.fault) (paper_of r.paper)
-      unfolding lent judge_with if_read
-      plan-refused r e = rw (← ej, ← ep) (sym e)
+    pub plan-unread : (r : Refusal) → plan_read_of (Err r) ≡ read_plan plan
+        → papers_of (record { judged = Err r; job = j; plan = no_plan }) ≡ lent order job plan
+    unfolding if_read
+    plan-unread r e = lent-as (judged_of (Err r)) (plan_read_of (Err r)) e refl
 
-      pub plan-lent : (cost : ℕ) → judged_of (Ok cost) ≡ judged_with order j p → lent order job plan ≡ record { judged = Passed cost; job = j; plan = p }
-      unfolding lent judge_with if_read plan_beside
-      plan-lent cost e =
-          let v : judge_with order job plan ≡ Passed cost = rw (← ej, ← ep) (sym e) in
-          let z : plan_beside (read_job job).answer plan ≡ p = rw (← ej) (sym (ap (λ (r : PlanRead). r.plan) ep)) in
-          let k : (read_job job).job ≡ j = sym (ap (λ (r : JobRead). r.job) ej) in
-          λ i. record { judged = v i; job = k i; plan = z i }
+    pub both-read : (p : Plan) → plan_read_of (Ok p) ≡ read_plan plan → (r : Result ℕ Refusal) → judged_of r ≡ judged_with order j p
+        → papers_of (record { judged = r; job = j; plan = p }) ≡ lent order job plan
+    unfolding if_read
+    both-read p ep r e = lent-as (judged_of r) (plan_read_of (Ok p)) ep e
 
-pub ruleset lent_laws = (job-unread, plan-unread, plan-refused, plan-lent)
+pub ruleset lent_laws = (job-unread, plan-unread, both-read)
 
--- of what is lent, the answer
-module _ (job plan : List ℕ) where
-  pub judge-passed : (cost : ℕ) (j : Job) (p : Plan) → lent true job plan ≡ record { judged = Passed cost; job = j; plan = p } → Passed cost ≡ judge job plan
-  unfolding judge lent
-  judge-passed cost j p e = sym (ap (λ (l : LentPapers). l.judged) e)
+-- ---- what an answer says of a result, where a refusal is converted
 
-  pub judge-refused : (r : Refusal) → (lent true job plan).judged ≡ Refused (number_of r.fault) (paper_of r.paper) → Refused (number_of r.fault) (paper_of r.paper) ≡ judge job plan
-  unfolding judge lent
-  judge-refused r e = sym e
-
-pub ruleset judge_laws = (judge-refused)
+pub judged-said : (r : Result ℕ Refusal) (a : Answer) → IfOk r (λ cost. a ≡ judged_says (Passed cost))
+    → IfErr r (λ x. a ≡ refused_says (number_of x.fault) (paper_of x.paper)) → a ≡ judged_says (judged_of r)
+judged-said (Ok cost) a p q = p
+judged-said (Err x) a p q = q
 
 -- ---- results that the definitions call alike are equal
 
@@ -99,18 +103,9 @@ one_judged (Err x) (Err y) e =
 one_judged (Ok n) (Err y) e = cc
 one_judged (Err x) (Ok m) e = cc
 
-pub one_lent : (l : LentPapers) (r r' : Result Lent Refusal) → Lends l r → Lends l r' → r ≡ r'
-one_lent l (Ok x) (Ok y) e e' =
-    let w = sym e ∙ e' in
-    let a = ap (λ (p : LentPapers). p.judged) w in
-    let c : x.cost ≡ y.cost = cc in
-    let j = ap (λ (p : LentPapers). p.job) w in
-    let q = ap (λ (p : LentPapers). p.plan) w in
-    λ i. Ok (record { cost = c i; job = j i; plan = q i })
-one_lent l (Err x) (Err y) e e' =
-    let w = sym e ∙ e' in
-    let f : number_of x.fault ≡ number_of y.fault = cc in
-    let p : paper_of x.paper ≡ paper_of y.paper = cc in
-    ap (λ (z : Refusal). Err z) (refusal-one x y f p)
-one_lent l (Ok x) (Err y) e e' = let a = sym (ap (λ (p : LentPapers). p.judged) e) ∙ e' in cc
-one_lent l (Err x) (Ok y) e e' = let a = sym e ∙ ap (λ (p : LentPapers). p.judged) e' in cc
+pub one_lent : (l l' : Lent) → papers_of l ≡ papers_of l' → l ≡ l'
+one_lent l l' e =
+    let a = one_judged l.judged l'.judged (ap (λ (p : LentPapers). p.judged) e) in
+    let j = ap (λ (p : LentPapers). p.job) e in
+    let q = ap (λ (p : LentPapers). p.plan) e in
+    λ i. record { judged = a i; job = j i; plan = q i }

@@ -1,7 +1,7 @@
 -- What the judge answers for any bytes: `judge`; `judged_says` gives each case in numbers. `judge_with` is told whether selection order
 -- is asked, and `lent` has the records beside its answer: what is done with a plan that was judged starts from there. `judged_of` and
--- `Lends` say which case the code's result is.
-use Rattle.std.specs.Prelude.{ℕ, zero, suc, ◌≡◌, Bool, true, not, ◌||◌, ◌&&◌, List, eqb, Result, Ok, Err}
+-- `papers_of` say what the code's results are called here.
+use Rattle.std.specs.Prelude.{ℕ, zero, suc, Bool, true, not, ◌||◌, ◌&&◌, List, eqb, Result, Ok, Err}
 use Rattle.basics.specs.Answers.{refused_says}
 use Rattle.basics.specs.Faults.{◌or_else◌, fault_unless, number_of, paper_of}
 use Rattle.basics.specs.Numbers.{counts_differ, order_broken, precedence_broken, resource_broken, chain_broken, paper_plan, outcome_passed}
@@ -97,10 +97,8 @@ abbrev pub judged_of : Result ℕ Refusal → Judged
 judged_of (Ok cost) = Passed cost
 judged_of (Err r) = Refused (number_of r.fault) (paper_of r.paper)
 
--- of papers lent the code has the records where the plan passes; else it has the refusal alone
-abbrev pub Lends : LentPapers → Result Lent Refusal → Type 0
-Lends l (Ok x) = l ≡ record { judged = Passed x.cost; job = x.job; plan = x.plan }
-Lends l (Err r) = l.judged ≡ Refused (number_of r.fault) (paper_of r.paper)
+abbrev pub papers_of : Lent → LentPapers
+papers_of l = record { judged = judged_of l.judged; job = l.job; plan = l.plan }
 
 -- ---- each case in its numbers
 

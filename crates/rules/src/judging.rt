@@ -1,8 +1,8 @@
 // The judge: a plan passes exactly when it meets every rule.
-ghost use Rattle.std.specs.Prelude.{◌≡◌};
+ghost use Rattle.std.specs.Prelude.{◌≡◌, IfOk, IfErr};
 ghost use Rattle.basics.specs.Faults.{fault_in};
 ghost use Rattle.rules.specs.Model.{inst_count, types_of};
-ghost use Rattle.rules.specs.Judge.{counts_fault, placing_fault, fault_with, judged_of, judged_with, judged as judged_by, Lends, lent as lent_of, judge as judge_of, judged_says as says_of};
+ghost use Rattle.rules.specs.Judge.{counts_fault, placing_fault, fault_with, judged_of, judged_with, judged as judged_by, Passed, papers_of, lent as lent_of, judge as judge_of, judged_says as says_of};
 
 use crate::chains::chains_ok;
 use crate::model::{inst_count, timing_in, types_in};
@@ -24,26 +24,27 @@ fn counts_fault(ops: u16, insts: u16, n: u16, k: usize) -> Result<(), Fault>
     unless(ops == n && insts as usize == k, Fault::CountsDiffer)
 }
 
+// Tables of any length and no records, as the definitions have it.
 /// The first of precedence, resource and chain that the operations placed break.
 #[tactic(auto, using(basics::proofs::FaultLaws::fault_laws), unfolding(crate::specs::Judge::placing_fault))]
-pub fn placing_fault(job: &Job, plan: &Plan, timing: &Timing) -> Result<(), Fault>
-    ensures { let j = job.now in
-        let p = plan.now in
-        fault_in result ≡ placing_fault j.n j.e j.wire j.clock j.from j.to p.starts p.insts timing.now }
+pub fn placing_fault(
+    n: u16,
+    e: u16,
+    wire: u16,
+    clock: u16,
+    from: &[u16],
+    to: &[u16],
+    starts: &[u16],
+    insts: &[u16],
+    timing: &Timing,
+) -> Result<(), Fault>
+    ensures { fault_in result ≡ placing_fault n e wire clock from.now to.now starts.now insts.now timing.now }
 {
-    let precedence = precedence_ok(&job.from, &job.to, job.e, &plan.starts, &timing.delays);
+    let precedence = precedence_ok(from, to, e, starts, &timing.delays);
     unless(precedence, Fault::PrecedenceBroken)?;
-    let resource = resource_ok(job.n, &plan.starts, &plan.insts, &timing.spacings);
+    let resource = resource_ok(n, starts, insts, &timing.spacings);
     unless(resource, Fault::ResourceBroken)?;
-    let chains = chains_ok(
-        &job.from,
-        &job.to,
-        job.e,
-        job.wire,
-        job.clock,
-        &plan.starts,
-        &timing.times,
-    );
+    let chains = chains_ok(from, to, e, wire, clock, starts, &timing.times);
     unless(chains, Fault::ChainBroken)
 }
 
@@ -54,14 +55,41 @@ fn fault_with(order: bool, job: &Job, plan: &Plan, types: &[u16], k: usize) -> R
     requires { (types.now ≡ types_of job.now) × (k ≡ inst_count job.now) }
     ensures { fault_in result ≡ fault_with order job.now plan.now }
 {
-    let timing = timing_in(job, types, &plan.insts);
-    counts_fault(plan.n, plan.k, job.n, k)?;
+    let n = job.n;
+    let timing = timing_in(
+        types,
+        job.clock,
+        &job.kinds,
+        &job.times,
+        &job.intervals,
+        &plan.insts,
+    );
+    counts_fault(plan.n, plan.k, n, k)?;
     unless(
         !order || order_ok(types, &plan.selection, k),
         Fault::OrderBroken,
     )?;
-    rows_fault(job, k, plan, &timing)?;
-    placing_fault(job, plan, &timing)
+    rows_fault(
+        n,
+        k,
+        job.t,
+        &plan.starts,
+        &plan.insts,
+        &timing.times,
+        &timing.delays,
+        &plan.selection,
+    )?;
+    placing_fault(
+        n,
+        job.e,
+        job.wire,
+        job.clock,
+        &job.from,
+        &job.to,
+        &plan.starts,
+        &plan.insts,
+        &timing,
+    )
 }
 
 /// A plan passes at its cost, or is refused by the first rule that it breaks, with selection order asked or not.
@@ -84,31 +112,51 @@ pub fn judged(job: &Job, plan: &Plan) -> Result<u32, Refusal>
     judged_with(true, job, plan)
 }
 
+// A record and no `Result`, since the papers stand beside a refusal too.
 /// Reads a job sheet and a plan sheet, and judges the plan, with selection order asked or not. A paper that cannot be read ends
-/// the question there.
-#[tactic(auto, using(crate::proofs::JudgeLaws::lent_laws))]
-pub fn lend(order: bool, job: &[u8], plan: &[u8]) -> Result<Lent, Refusal>
-    ensures { Lends (lent_of order job.now plan.now) result }
+/// the question there: it is zeros, and so is a plan beside a job that cannot be read.
+pub fn lend(order: bool, job: &[u8], plan: &[u8]) -> Lent
+    ensures { papers_of result ≡ lent_of order job.now plan.now }
 {
-    let job = read_job(job)?;
-    let plan = read_plan(plan)?;
-    let cost = judged_with(order, &job, &plan)?;
-    Ok(Lent { cost, job, plan })
+    let job = match read_job(job) {
+        Ok(job) => job,
+        Err(refusal) => {
+            return Lent {
+                judged: Err(refusal),
+                job: Job::default(),
+                plan: Plan::default(),
+            };
+        }
+    };
+    let plan = match read_plan(plan) {
+        Ok(plan) => plan,
+        Err(refusal) => {
+            return Lent {
+                judged: Err(refusal),
+                job,
+                plan: Plan::default(),
+            };
+        }
+    };
+    Lent {
+        judged: judged_with(order, &job, &plan),
+        job,
+        plan,
+    }
 }
 
 /// Judges a plan sheet against a job sheet.
-#[tactic(auto, using(crate::proofs::JudgeLaws::judge_laws))]
 pub fn judge(job: &[u8], plan: &[u8]) -> Result<u32, Refusal>
     ensures { judged_of result ≡ judge_of job.now plan.now }
 {
-    let lent = lend(true, job, plan)?;
-    Ok(lent.cost)
+    lend(true, job, plan).judged
 }
 
-// No `From`: the type does not tell that the number is a cost.
+// No `From`: the type does not tell that the number is a cost. A refusal is whatever converts to an answer, any two numbers too.
 /// What the judge answers.
-pub fn judged_says(answer: Result<u32, Refusal>) -> Answer
-    ensures { result ≡ says_of (judged_of answer) }
+pub fn judged_says<R: Into<Answer>>(answer: Result<u32, R>) -> Answer
+    ensures passed { IfOk answer (λ cost. result ≡ says_of (Passed cost)) }
+    ensures refused { IfErr answer (λ refusal. R.converts refusal result) }
 {
     match answer {
         Ok(cost) => Answer {

@@ -25,10 +25,10 @@ pub type Timing = Spans<{ sheets::limits::OP_CELLS }>;
 /// Of each operation on each instance: operation o on instance i has cell INST_CELLS * o + i.
 pub type Tables = Spans<{ model::UNIT_CELLS }>;
 
-/// A job and a plan that were read and judged, at the plan's cost.
+/// What the judge answers, beside the papers as far as they were read.
 #[derive(Clone, Copy)]
 pub struct Lent {
-    pub cost: u32,
+    pub judged: Result<u32, basics::Refusal>,
     pub job: sheets::Job,
     pub plan: sheets::Plan,
 }

@@ -67,16 +67,24 @@ fn row_spans(types: &[u16], kinds: &[u16], pairs: &[u16], insts: &[u16]) -> [u16
     from_fn(|o| span_of(types, kinds, pairs, o, cell(insts, o) as usize))
 }
 
+// Tables of any length and no job, as the definitions have it.
 /// What each operation takes on its instance: times, delays and spacings.
-pub fn timing_in(job: &Job, types: &[u16], insts: &[u16]) -> Timing
-    ensures { result ≡ timing_in types.now job.now.clock job.now.kinds job.now.times job.now.intervals insts.now }
+pub fn timing_in(
+    types: &[u16],
+    clock: u16,
+    kinds: &[u16],
+    times: &[u16],
+    intervals: &[u16],
+    insts: &[u16],
+) -> Timing
+    ensures { result ≡ timing_in types.now clock kinds.now times.now intervals.now insts.now }
 {
-    let times = row_spans(types, &job.kinds, &job.times, insts);
-    let intervals = row_spans(types, &job.kinds, &job.intervals, insts);
+    let times = row_spans(types, kinds, times, insts);
+    let intervals = row_spans(types, kinds, intervals, insts);
     Timing {
         times,
-        delays: from_fn(|o| in_steps(job.clock, times[o])),
-        spacings: from_fn(|o| in_steps(job.clock, intervals[o])),
+        delays: from_fn(|o| in_steps(clock, times[o])),
+        spacings: from_fn(|o| in_steps(clock, intervals[o])),
     }
 }
 

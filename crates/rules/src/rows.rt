@@ -3,10 +3,8 @@ ghost use Rattle.std.specs.Prelude.{◌≡◌};
 ghost use Rattle.basics.specs.Faults.{fault_in};
 ghost use Rattle.rules.specs.Rules.{finish as finish_of, row_fault, rows_fault};
 
-use crate::Timing;
 use crate::selection::selected;
 use basics::{Fault, cell, unless};
-use sheets::{Job, Plan};
 
 /// The step in which an operation ends.
 #[tactic(auto, unfolding(crate::specs::Rules::finish))]
@@ -40,24 +38,32 @@ pub fn row_fault(
     )
 }
 
-/// The first fault of a job's rows, where it has k instances.
+// Tables of any length and no records, as the definitions have it.
+/// The first fault of n rows.
 #[tactic(auto, using(basics::proofs::FaultLaws::first_laws), unfolding(crate::specs::Rules::rows_fault, crate::specs::Rules::row_fault_at))]
-pub fn rows_fault(job: &Job, k: usize, plan: &Plan, timing: &Timing) -> Result<(), Fault>
-    ensures { let j = job.now in
-        let p = plan.now in
-        fault_in result ≡ rows_fault j.n k j.t p.starts p.insts timing.now.times timing.now.delays p.selection }
+pub fn rows_fault(
+    n: u16,
+    k: usize,
+    t: u16,
+    starts: &[u16],
+    insts: &[u16],
+    times: &[u16],
+    delays: &[u16],
+    selection: &[u16],
+) -> Result<(), Fault>
+    ensures { fault_in result ≡ rows_fault n k t starts.now insts.now times.now delays.now selection.now }
 {
-    for o in 0..job.n as usize {
-        let inst = cell(&plan.insts, o);
-        let chosen = selected(&plan.selection, inst as usize);
+    for o in 0..n as usize {
+        let inst = cell(insts, o);
+        let chosen = selected(selection, inst as usize);
         row_fault(
             k,
-            job.t,
+            t,
             inst,
-            cell(&timing.times, o),
+            cell(times, o),
             chosen,
-            cell(&plan.starts, o),
-            cell(&timing.delays, o),
+            cell(starts, o),
+            cell(delays, o),
         )?;
     }
     Ok(())

@@ -24,10 +24,12 @@ use Rattle.sheets.proofs.PlanRoundTrip.{sheet-length}
 use Rattle.rules.specs.Model.{inst_count}
 use Rattle.rules.specs.Meets.{Meets, start, inst, Selected}
 use Rattle.placing.specs.Board.{board_of}
-use Rattle.search.specs.Search.{walked, wrote, answered, searched_of, search_job, out_if, search_job_out, if_read, search, out_if_read, search_out}
+use Rattle.search.specs.Search.{walked, wrote, answered, found_of, searched_of, searched_says, search_job, out_if, search_job_out, if_read, search, out_if_read, search_out}
 use Rattle.placing.specs.Plans.{plan_from}
 use Rattle.search.specs.Cheapest.{SameRow, SameRows, Before, FirstCheapest, Spends, NoPlan, Finds, Refusal}
-use Rattle.std.specs.Prelude.{Result, Ok, Err}
+use Rattle.std.specs.Prelude.{Result, Ok, Err, IfOk, IfErr}
+use Rattle.basics.specs.Answers.{refused_says}
+use Rattle.basics.specs.declared.Answer.{Answer}
 use Rattle.basics.specs.Faults.{number_of, paper_of}
 use Rattle.basics.specs.declared.refusals.Refusal.{Refusal as Reason}
 use Rattle.basics.proofs.AnswerLaws.{refusal-one}
@@ -312,6 +314,13 @@ module _ (job : List ℕ) (budget : ℕ) (before : List ℕ) (c v size : ℕ) wh
   pub found-exactly : (after : List ℕ)
       → ((search job budget (length before) ≡ Found c v size) × (after ≡ search_out job budget before)) ↔ Finds job budget before after c v size
   found-exactly after = ((λ w. rw w.1 (found-says w.0)), says-found after)
+
+-- ---- what an answer says of a result, where a refusal is converted
+
+pub searched-said : (r : Result Finding Reason) (a : Answer) → IfOk r (λ finding. a ≡ searched_says (found_of finding))
+    → IfErr r (λ x. a ≡ refused_says (number_of x.fault) (paper_of x.paper)) → a ≡ searched_says (searched_of r)
+searched-said (Ok finding) a p q = p
+searched-said (Err x) a p q = q
 
 -- ---- the code's answer, where its word is known: there is one
 

@@ -1,8 +1,8 @@
 // The search: the job is read, its plans are walked over, and the best is written.
-ghost use Rattle.std.specs.Prelude.{◌≡◌, ◌≤◌, ◌<◌, length, MatchOption};
+ghost use Rattle.std.specs.Prelude.{◌≡◌, ◌≤◌, ◌<◌, length, IfOk, IfErr, MatchOption};
 ghost use Rattle.basics.specs.Answers.{Promise};
 ghost use Rattle.placing.specs.Board.{OfJob, WasRead};
-ghost use Rattle.search.specs.Search.{walked as walked_of, searched_of, search_job, search_job_out, search as search_of, search_out, searched_says as says_of};
+ghost use Rattle.search.specs.Search.{walked as walked_of, found_of, searched_of, search_job, search_job_out, search as search_of, search_out, searched_says as says_of};
 ghost use Rattle.search.specs.Walking.{state_of};
 
 use crate::Finding;
@@ -68,10 +68,12 @@ pub fn search(job: &[u8], budget: u32, out: &mut [u8]) -> Result<Finding, Refusa
     search_job(&job, budget, out)
 }
 
-// No `From`: `Result` is of std and `Answer` of basics, so none may be written here.
+// No `From`: `Result` is of std and `Answer` of basics, so none may be written here. A refusal is whatever converts to an answer, any
+// two numbers too.
 /// What the search answers.
-pub fn searched_says(answer: Result<Finding, Refusal>) -> Answer
-    ensures { result ≡ says_of (searched_of answer) }
+pub fn searched_says<R: Into<Answer>>(answer: Result<Finding, R>) -> Answer
+    ensures found { IfOk answer (λ finding. result ≡ says_of (found_of finding)) }
+    ensures refused { IfErr answer (λ refusal. R.converts refusal result) }
 {
     match answer {
         Ok(

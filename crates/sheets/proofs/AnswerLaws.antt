@@ -7,8 +7,9 @@ use borrow.Author.Tests.{le-leb, lt-leb}
 use lib.Dec.{leb}
 use lib.ListN.{length, take, drop}
 use lib.Seq.{take_at}
-use Rattle.std.specs.Prelude.{Result, Ok, Err}
-use Rattle.basics.specs.Answers.{Promise}
+use Rattle.std.specs.Prelude.{Result, Ok, Err, IfOk, IfErr}
+use Rattle.basics.specs.Answers.{Promise, refused_says}
+use Rattle.basics.specs.declared.Answer.{Answer}
 use Rattle.basics.specs.Faults.{number_of, paper_of, fault_in, blamed}
 use Rattle.basics.specs.declared.refusals.Fault.{Fault}
 use Rattle.basics.specs.declared.refusals.Paper.{Paper}
@@ -20,12 +21,24 @@ use Rattle.sheets.specs.JobSheet.{JobRead, job_read_of}
 use Rattle.sheets.specs.PlanSheet.{PlanRead, plan_read_of}
 use Rattle.sheets.specs.declared.Job.{Job}
 use Rattle.sheets.specs.declared.Plan.{Plan}
-use Rattle.sheets.specs.Answers.{Written, Wrote, Refused, written_of, if_room, written, output}
+use Rattle.sheets.specs.Answers.{Read, reading_of, reading_says, Written, Wrote, Refused, written_of, written_says, if_room, written, output}
 
 -- a refusal leaves the output's bytes as they were, of the writers and of all that leave `output`
 pub untouched : (answer : Written) (sheet out : List ℕ) (number paper : ℕ) → answer ≡ Refused number paper → output answer sheet out ≡ out
 unfolding output
 untouched answer sheet out number paper e = rw e
+
+-- ---- what an answer says of a result, where a refusal is converted
+
+pub reading-said : {A : Type 0} (r : Result A Refusal) (a : Answer) → IfOk r (λ x. a ≡ reading_says Read)
+    → IfErr r (λ x. a ≡ refused_says (number_of x.fault) (paper_of x.paper)) → a ≡ reading_says (reading_of r)
+reading-said (Ok x) a p q = p
+reading-said (Err x) a p q = q
+
+pub written-said : (r : Result ℕ Refusal) (a : Answer) → IfOk r (λ n. a ≡ written_says (Wrote n))
+    → IfErr r (λ x. a ≡ refused_says (number_of x.fault) (paper_of x.paper)) → a ≡ written_says (written_of r)
+written-said (Ok n) a p q = p
+written-said (Err x) a p q = q
 
 -- ---- the code's results are told apart by what the definitions call them
 

@@ -1,19 +1,16 @@
 -- Laws of columns: bounds, the widths of what is put, and that a column read where a table was put is the table, and back.
-use Prim.Native.Nat.{ℕ, zero, suc, ◌+◌, ◌*◌, ◌≤◌, ◌<◌}
+use Prim.Native.Nat.{ℕ, suc, ◌+◌, ◌*◌, ◌≤◌}
 use mathlib.Core.Path.{◌≡◌, refl, sym, ap, ◌∙◌}
 use mathlib.Core.Bool.{true}
-use mathlib.Core.List.{List, [], ◌∷◌}
+use mathlib.Core.List.{List}
 use native.Mathlib.Omega.{arith}
-use lib.ListN.{length, take, drop, length-drop}
-use Rattle.std.proofs.lemmas.List.{get_or-take, get_or-drop, length-take, length-take-le}
-use Rattle.basics.specs.Tables.{cell, cells, blank}
+use lib.ListN.{length, set}
+use Rattle.basics.specs.Tables.{cell, filled, cells, blank}
 use Rattle.basics.proofs.TableLaws.{cells-cong, cells-blank, cell-cells}
 use Rattle.bits.specs.Bits.{field, put_field}
-use Rattle.bits.specs.Sheet.{Field, of, total, many, put_all}
+use Rattle.bits.specs.Sheet.{Field, total, many, put_all}
 use Rattle.bits.proofs.SheetLaws.{Holds, holds-many, many-holds, put-many}
 use Rattle.sheets.specs.Columns.{column_at, single, double}
-
--- ---- bounds
 
 -- ---- widths
 
@@ -25,39 +22,15 @@ pub total-double : (w : ℕ) (table : List ℕ) (w' : ℕ) (table' : List ℕ) (
 unfolding total
 total-double w table w' table' first i = omega arith
 
--- ---- a table's part
+-- ---- a column read, cell by cell
 
-pub front_fits : (t u : List ℕ) (n top i : ℕ) → ((k : ℕ) → k < n → cell t k < top) → i < length (take n u) → cell (take n t) i < top
-front_fits t u n top i h l =
-    let m : i < n = omega (arith, length-take n u) in
-    rw (get_or-take n t i 0 m) (h i m)
+pub none-filled : (table : List ℕ) (f : ℕ → ℕ) → table ≡ filled table f 0
+unfolding filled
+none-filled table f = refl
 
-many-cong : (f g : ℕ → List Field) (n : ℕ) → ((i : ℕ) → i < n → f i ≡ g i) → many f n ≡ many g n
-unfolding many
-many-cong f g zero h = refl
-many-cong f g (suc n) h = rw (many-cong f g n (λ i l. h i (omega arith)), h n (omega arith))
-
-pub front_singles : (w : ℕ) (t : List ℕ) (n : ℕ) → n ≤ length t → many (single w (take n t)) (length (take n t)) ≡ many (single w t) n
-front_singles w t n h =
-    rw (length-take-le n t h) (many-cong (single w (take n t)) (single w t) n (λ i l. ap (λ (x : ℕ). of w x ∷ []) (get_or-take n t i 0 l)))
-
--- cells `first` to `first + n - 1` of two tables
-pub part_doubles : (w : ℕ) (t : List ℕ) (w' : ℕ) (t' : List ℕ) (first n : ℕ) → first + n ≤ length t
-    → many (double w (take n (drop first t)) w' (take n (drop first t')) 0) (length (take n (drop first t))) ≡ many (double w t w' t' first) n
-part_doubles w t w' t' first n h =
-    let e : n ≤ length (drop first t) = omega (arith, length-drop first t) in
-    rw (length-take-le n (drop first t) e)
-    (many-cong (double w (take n (drop first t)) w' (take n (drop first t')) 0) (double w t w' t' first) n
-    (λ i l.
-    let z : 0 + i ≡ i = omega arith in
-    rw (z, get_or-take n (drop first t) i 0 l, get_or-take n (drop first t') i 0 l, get_or-drop first t i 0, get_or-drop first t' i 0) refl))
-
-pub front_doubles : (w : ℕ) (t : List ℕ) (w' : ℕ) (t' : List ℕ) (n : ℕ) → n ≤ length t
-    → many (double w (take n t) w' (take n t') 0) (length (take n t)) ≡ many (double w t w' t' 0) n
-front_doubles w t w' t' n h =
-    rw (length-take-le n t h)
-    (many-cong (double w (take n t) w' (take n t') 0) (double w t w' t' 0) n
-    (λ i l. let z : 0 + i ≡ i = omega arith in rw (z, get_or-take n t i 0 l, get_or-take n t' i 0 l) refl))
+pub more-filled : (table t : List ℕ) (f : ℕ → ℕ) (i : ℕ) → t ≡ filled table f i → set t i (f i) ≡ filled table f (i + 1)
+unfolding filled
+more-filled table t f i e = let z : i + 1 ≡ suc i = omega arith in rw (z, e)
 
 -- ---- tables put, cell by cell
 
@@ -70,12 +43,12 @@ pub single-put : (s : List ℕ) (at w : ℕ) (table : List ℕ) (i : ℕ) (t : L
 unfolding put_all
 single-put s at w table i t e = rw e (put-many (single w table) w (total-single w table) s at i)
 
-pub double-put : (s : List ℕ) (at w : ℕ) (table : List ℕ) (w' : ℕ) (table' : List ℕ) (i : ℕ) (t : List ℕ) → t ≡ put_all s at (many (double w table w' table' 0) i)
-    → put_field (put_field t (at + (w + w') * i) w (cell table i)) (at + (w + w') * i + w) w' (cell table' i) ≡ put_all s at (many (double w table w' table' 0) (i + 1))
+pub double-put : (s : List ℕ) (at w : ℕ) (table : List ℕ) (w' : ℕ) (table' : List ℕ) (first i : ℕ) (t : List ℕ)
+    → t ≡ put_all s at (many (double w table w' table' first) i)
+    → put_field (put_field t (at + (w + w') * i) w (cell table (first + i))) (at + (w + w') * i + w) w' (cell table' (first + i))
+    ≡ put_all s at (many (double w table w' table' first) (i + 1))
 unfolding put_all
-double-put s at w table w' table' i t e =
-    let z : 0 + i ≡ i = omega arith in
-    rw e (rw z at (put-many (double w table w' table' 0) (w + w') (total-double w table w' table' 0) s at i))
+double-put s at w table w' table' first i t e = rw e (put-many (double w table w' table' first) (w + w') (total-double w table w' table' first) s at i)
 
 pub ruleset put_laws = (none-put, single-put, double-put)
 

@@ -4,7 +4,7 @@ use mathlib.Core.Path.{◌≡◌, refl, sym, ap, ap₂, subst, ◌∙◌}
 use mathlib.Core.List.{List, ◌++◌}
 use native.Mathlib.Omega.{arith}
 use lib.Dec.{lit<}
-use lib.ListN.{length, take, drop}
+use lib.ListN.{length, drop}
 use Rattle.basics.specs.Tables.{cell}
 use Rattle.std.specs.Prelude.{Result, Ok}
 use Rattle.basics.specs.Faults.{fault_in, blamed}
@@ -19,7 +19,7 @@ use Rattle.sheets.specs.Limits.{kind_count, op_bits, time_bits, kind_bits, cost_
 use Rattle.sheets.specs.Columns.{single, double}
 use Rattle.sheets.specs.JobSheet.{links_at, types_at, job_end, job_head_fields, type_fields, graph_fields, unit_fields, job_fields, job_sheet, FieldsFit}
 use Rattle.sheets.specs.declared.Job.{Job}
-use Rattle.sheets.proofs.ColumnLaws.{total-single, total-double, none-put, front_fits, front_singles, front_doubles, part_doubles}
+use Rattle.sheets.proofs.ColumnLaws.{total-single, total-double, none-put}
 use Rattle.sheets.proofs.RecordLaws.{JobSound, none-record}
 
 -- ---- widths
@@ -88,26 +88,21 @@ put-type s here costs copies times intervals y =
 
 module _ (j : Job) (s : List ℕ) where
   -- kinds, then links
-  pub graph-put : (t u : List ℕ) → j.n ≤ length j.kinds → j.e ≤ length j.from
-      → t ≡ put_all s job_head (many (single kind_bits (take j.n j.kinds)) (length (take j.n j.kinds)))
-      → u ≡ put_all t (links_at j.n) (many (double op_bits (take j.e j.from) op_bits (take j.e j.to) 0) (length (take j.e j.from)))
+  pub graph-put : (t u : List ℕ) → t ≡ put_all s job_head (many (single kind_bits j.kinds) j.n)
+      → u ≡ put_all t (links_at j.n) (many (double op_bits j.from op_bits j.to 0) j.e)
       → u ≡ put_all s job_head (graph_fields j)
-  graph-put t u n e p q =
-      let kinds : List Field = many (single kind_bits j.kinds) j.n in
-      let links : List Field = many (double op_bits j.from op_bits j.to 0) j.e in
-      q ∙ rw (p, front_singles kind_bits j.kinds j.n n, front_doubles op_bits j.from op_bits j.to j.e e, put-append s job_head kinds links, total-kinds j) refl
+  graph-put t u p q =
+      q ∙ rw (p, put-append s job_head (many (single kind_bits j.kinds) j.n) (many (double op_bits j.from op_bits j.to 0) j.e), total-kinds j) refl
 
   -- one type more: cost, copies, then the pairs
-  pub unit-put : (at y : ℕ) (t a b u : List ℕ) → kind_count * y + kind_count ≤ length j.times
-      → t ≡ put_all s at (many (type_fields j.costs j.copies j.times j.intervals) y)
+  pub unit-put : (at y : ℕ) (t a b u : List ℕ) → t ≡ put_all s at (many (type_fields j.costs j.copies j.times j.intervals) y)
       → a ≡ put_field t (at + type_bits * y) cost_bits (cell j.costs y)
       → b ≡ put_field a (at + type_bits * y + cost_bits) copies_bits (cell j.copies y)
-      → u ≡ put_all b (at + type_bits * y + type_head)
-      (many (double time_bits (take kind_count (drop (kind_count * y) j.times)) time_bits (take kind_count (drop (kind_count * y) j.intervals)) 0) (length (take kind_count (drop (kind_count * y) j.times))))
+      → u ≡ put_all b (at + type_bits * y + type_head) (many (double time_bits j.times time_bits j.intervals (kind_count * y)) kind_count)
       → u ≡ put_all s at (many (type_fields j.costs j.copies j.times j.intervals) (y + 1))
-  unit-put at y t a b u h e p q r =
+  unit-put at y t a b u e p q r =
       let f : ℕ → List Field = type_fields j.costs j.copies j.times j.intervals in
-      r ∙ rw (part_doubles time_bits j.times time_bits j.intervals (kind_count * y) kind_count h, q, p, e)
+      r ∙ rw (q, p, e)
       (put-type (put_all s at (many f y)) (at + type_bits * y) j.costs j.copies j.times j.intervals y
       ∙ put-many f type_bits (total-type j.costs j.copies j.times j.intervals) s at y)
 
@@ -121,7 +116,7 @@ module _ (j : Job) (s : List ℕ) where
       (sym (put-append (put_all s 0 (job_head_fields j)) job_head (graph_fields j) (unit_fields j))
       ∙ sym (put-append s 0 (job_head_fields j) (graph_fields j ++ unit_fields j)))
 
-pub ruleset job_put_laws = (none-put, front_fits, graph-put, unit-put, parts-put)
+pub ruleset job_put_laws = (none-put, graph-put, unit-put, parts-put)
 
 -- ---- the sheet
 

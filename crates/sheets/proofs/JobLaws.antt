@@ -42,6 +42,19 @@ pub pairs-in_order : (a b c d : ℕ)
     → is_some_and is_lt (partial_ordering_then (Some (nat_cmp a c)) (Some (nat_cmp b d))) ≡ (ltb a c || (eqb a c && ltb b d))
 pairs-in_order a b c d = pairs-by (ltb a c) (eqb a c) (ltb b d) (eqb b d)
 
+-- the first link is behind none; another is compared with the one before it
+pub ascends-first : (from to : List ℕ) (i : ℕ) → i ≡ 0 → true ≡ ascends from to i
+unfolding ascends
+ascends-first from to i h = rw h
+
+pub ascends-pair : (from to : List ℕ) (i : ℕ) → (i ≡ 0 → ⊥)
+    → is_some_and is_lt (partial_ordering_then (Some (nat_cmp (cell from (i - 1)) (cell from i))) (Some (nat_cmp (cell to (i - 1)) (cell to i))))
+    ≡ ascends from to i
+ascends-pair from to i h =
+    pairs-in_order (cell from (i - 1)) (cell to (i - 1)) (cell from i) (cell to i) ∙ sym (ascends-behind from to i h)
+
+pub ruleset ascends_laws = (ascends-first, ascends-pair)
+
 -- ---- counts within their limits
 
 pub record Counts (n e m clock : ℕ) : Type 0 where

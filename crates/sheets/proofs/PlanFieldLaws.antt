@@ -5,7 +5,7 @@ use mathlib.Core.Bool.{true}
 use mathlib.Core.List.{List, ◌++◌}
 use native.Mathlib.Omega.{arith}
 use lib.Dec.{lit<}
-use lib.ListN.{length, take, drop}
+use lib.ListN.{length, drop}
 use Rattle.std.specs.Prelude.{Result, Ok}
 use Rattle.basics.specs.Faults.{fault_in, blamed}
 use Rattle.basics.specs.declared.refusals.Fault.{Fault}
@@ -22,7 +22,7 @@ use Rattle.sheets.specs.Limits.{max_ops, max_insts, max_select, max_steps, max_i
 use Rattle.sheets.specs.Columns.{single, double}
 use Rattle.sheets.specs.PlanSheet.{FieldsFit, rows_at, plan_count_fields, plan_end, plan_fits, plan_record_fault, plan_fields, plan_sheet}
 use Rattle.sheets.specs.declared.Plan.{Plan}
-use Rattle.sheets.proofs.ColumnLaws.{total-single, total-double, front_fits, front_singles, front_doubles}
+use Rattle.sheets.proofs.ColumnLaws.{total-single, total-double}
 use Rattle.sheets.proofs.PlanLaws.{none-sizes}
 
 -- ---- a record without fault
@@ -91,19 +91,18 @@ fields_fit p who found f e = fields-fit p (none-plan p (sym f ∙ blamed-none wh
 -- ---- what is put
 
 -- sizes, then selection, then rows, each behind the one before
-pub plan-put : (p : Plan) (s a b d t u : List ℕ) → p.k ≤ length p.selection → p.n ≤ length p.starts
+pub plan-put : (p : Plan) (s a b d t u : List ℕ)
     → a ≡ put_field s 0 form_bits plan_form → b ≡ put_field a n_at op_bits p.n → d ≡ put_field b k_at inst_count_bits p.k
-    → t ≡ put_all d plan_head (many (single select_bits (take p.k p.selection)) (length (take p.k p.selection)))
-    → u ≡ put_all t (rows_at p.k) (many (double step_bits (take p.n p.starts) inst_bits (take p.n p.insts) 0) (length (take p.n p.starts)))
+    → t ≡ put_all d plan_head (many (single select_bits p.selection) p.k)
+    → u ≡ put_all t (rows_at p.k) (many (double step_bits p.starts inst_bits p.insts 0) p.n)
     → u ≡ put_all s 0 (plan_fields p)
 unfolding put_all
-plan-put p s a b d t u k n x y z q r =
+plan-put p s a b d t u x y z q r =
     let marks : List Field = many (single select_bits p.selection) p.k in
     let rows : List Field = many (double step_bits p.starts inst_bits p.insts 0) p.n in
-    r ∙ rw (q, z, y, x, front_singles select_bits p.selection p.k k, front_doubles step_bits p.starts inst_bits p.insts p.n n)
-    (rw (put-append (put_all s 0 (plan_count_fields p.n p.k)) plan_head marks rows, total-marks p) refl)
+    r ∙ rw (q, z, y, x) (rw (put-append (put_all s 0 (plan_count_fields p.n p.k)) plan_head marks rows, total-marks p) refl)
 
-pub ruleset plan_put_laws = (front_fits, plan-put)
+pub ruleset plan_put_laws = (plan-put)
 
 -- ---- the sheet
 

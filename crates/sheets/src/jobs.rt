@@ -77,6 +77,7 @@ fn job_counts_fault(job: &Job) -> Result<(), Fault>
 }
 
 // Link i is behind the one before it.
+#[tactic(auto, using(crate::proofs::JobLaws::ascends_laws))]
 fn ascends(job: &Job, i: usize) -> bool
     ensures { result ≡ ascends job.now.from job.now.to i }
 {
@@ -313,14 +314,16 @@ fn put_graph(out: &mut [u8], job: &Job)
 {
     let n = job.n as usize;
     let e = job.e as usize;
-    put_singles(out, JOB_HEAD, KIND_BITS, &job.kinds[..n]);
+    put_singles(out, JOB_HEAD, KIND_BITS, &job.kinds, n);
     put_doubles(
         out,
         links_at(job.n),
         OP_BITS,
-        &job.from[..e],
+        &job.from,
         OP_BITS,
-        &job.to[..e],
+        &job.to,
+        0,
+        e,
     );
 }
 
@@ -341,14 +344,15 @@ fn put_units(out: &mut [u8], job: &Job)
             COPIES_BITS,
             cell(&job.copies, y) as u32,
         );
-        let first = KIND_COUNT * y;
         put_doubles(
             out,
             here + TYPE_HEAD,
             TIME_BITS,
-            &job.times[first..first + KIND_COUNT],
+            &job.times,
             TIME_BITS,
-            &job.intervals[first..first + KIND_COUNT],
+            &job.intervals,
+            KIND_COUNT * y,
+            KIND_COUNT,
         );
     }
 }

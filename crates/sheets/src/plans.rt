@@ -133,14 +133,16 @@ fn put_plan(out: &mut [u8], plan: &Plan)
     bits::put(out, 0, FORM_BITS, PLAN_FORM);
     bits::put(out, N_AT, OP_BITS, plan.n as u32);
     bits::put(out, K_AT, INST_COUNT_BITS, plan.k as u32);
-    put_singles(out, PLAN_HEAD, SELECT_BITS, &plan.selection[..k]);
+    put_singles(out, PLAN_HEAD, SELECT_BITS, &plan.selection, k);
     put_doubles(
         out,
         PLAN_HEAD + SELECT_BITS * k,
         STEP_BITS,
-        &plan.starts[..n],
+        &plan.starts,
         INST_BITS,
-        &plan.insts[..n],
+        &plan.insts,
+        0,
+        n,
     );
 }
 

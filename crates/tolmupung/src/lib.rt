@@ -15,7 +15,7 @@ ghost use Rattle.moves.specs.Slide.{slide, slide_out};
 ghost use Rattle.moves.specs.Tidy.{tidy, tidy_out};
 ghost use Rattle.dossiers.specs.Dossier.{check_dossier};
 
-use basics::Answer;
+use basics::{Answer, Refusal};
 use notes::checking::checked_says;
 use rules::judging::judged_says;
 use search::searching::searched_says;
@@ -47,7 +47,7 @@ pub extern "C" fn tolmupung_read_job(sheet: &[u8]) -> JobRead
 {
     match read_job(sheet) {
         Ok(job) => JobRead {
-            answer: reading_says(Ok(())),
+            answer: reading_says(Ok::<(), Refusal>(())),
             job,
         },
         Err(refusal) => JobRead {
@@ -63,7 +63,7 @@ pub extern "C" fn tolmupung_read_plan(sheet: &[u8]) -> PlanRead
 {
     match read_plan(sheet) {
         Ok(plan) => PlanRead {
-            answer: reading_says(Ok(())),
+            answer: reading_says(Ok::<(), Refusal>(())),
             plan,
         },
         Err(refusal) => PlanRead {

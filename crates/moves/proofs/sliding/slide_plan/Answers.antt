@@ -18,7 +18,7 @@ pub moved_starts-starts-requires : goal.moved_starts-starts-requires
 moved_starts-starts-requires c =
     let e = c.unsigned_abs.ensures.value ∙ steps-far c.args.distance c.ranges.distance in
     let n = near-is c.args.distance c.ranges.distance (rw (← e) c.if-unsigned_abs.false) in
-    (rw (n, ← e) c.if-unsigned_abs.false, (plan-sizes c.args.plan.now c.requires).1)
+    (rw (n, ← e) c.if-unsigned_abs.false, (plan-sizes c.args.plan.now c.requires).2)
 
 pub returns-then-not-keeps : goal.returns-then-not-keeps
 returns-then-not-keeps c =

@@ -4,7 +4,7 @@ use Rattle.moves.proofs.MoveSteps.{plan-sizes}
 use Rattle.moves.proofs.tidying.tidied.Goals as goal
 
 pub moves_in-moves-requires : goal.moves_in-moves-requires
-moves_in-moves-requires c = (plan-sizes c.args.plan.now c.requires).0
+moves_in-moves-requires c = (plan-sizes c.args.plan.now c.requires).1
 
 pub returns : goal.returns
 unfolding tidied

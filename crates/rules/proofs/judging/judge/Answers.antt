@@ -1,5 +1,8 @@
-use Rattle.rules.proofs.JudgeLaws.{judge-passed}
+-- Of what is lent, the answer.
+use mathlib.Core.Path.{ap}
+use Rattle.rules.specs.Judge.{LentPapers, lent, judge}
 use Rattle.rules.proofs.judging.judge.Goals as goal
 
 pub returns : goal.returns
-returns c = judge-passed _ _ _ _ _ c.in_ok-lent.ensures
+unfolding judge lent
+returns c = ap (λ (l : LentPapers). l.judged) c.lend.ensures

@@ -6,4 +6,4 @@ use Rattle.rules.proofs.rows.rows_fault.Given as goal
 
 abbrev pub invariant-loop-o : goal.invariant-loop-o
 invariant-loop-o l =
-    first (row_fault_at l.k l.job.t l.plan.starts l.plan.insts l.timing.times l.timing.delays l.plan.selection) l.o ≡ 0
+    first (row_fault_at l.k l.t l.starts l.insts l.times l.delays l.selection) l.o ≡ 0

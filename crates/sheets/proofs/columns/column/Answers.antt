@@ -1,7 +1,8 @@
--- Each cell is a field's.
+-- What is filled behind the table's end is lost.
 use borrow.Author.Rules.{rules}
-use Rattle.basics.proofs.TableLaws.{cells-held}
+use mathlib.Core.Path.{◌∙◌}
+use Rattle.basics.proofs.TableLaws.{cells-min}
 use Rattle.sheets.proofs.columns.column.Goals as goal
 
 pub returns : goal.returns
-returns g c = cells-held _ _ _ (λ i x l k. search rules) c.cells.ensures
+returns g c = c.fill_column.ensures ∙ search (rules, cells-min)

@@ -5,4 +5,4 @@ use Rattle.sheets.specs.Columns.{double}
 use Rattle.sheets.proofs.columns.put_doubles.Given as goal
 
 abbrev pub invariant-loop-i : goal.invariant-loop-i
-invariant-loop-i l = l.out ≡ put_all l.initial.out l.at (many (double l.width l.table l.width2 l.table2 0) l.i)
+invariant-loop-i l = l.out ≡ put_all l.initial.out l.at (many (double l.width l.table l.width2 l.table2 l.first) l.i)

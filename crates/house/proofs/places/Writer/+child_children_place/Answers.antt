@@ -9,6 +9,7 @@ use Rattle.placing.proofs.BoardLaws.{few-ops, near-leads}
 use Rattle.placing.proofs.ReadyLaws.{may-close}
 use Rattle.placing.proofs.RowsKept.{raised-back, taken-back, lowered-ready, lowered-placed, placed-ready}
 use Rattle.placing.proofs.TurnLaws.{places-small, stands-small, stands-live, stands-places, first-stands, row-begins, after-dead, after-live, stops-live, row-ends, stands-end}
+use Rattle.notes.proofs.ReadLaws.{closed-turn}
 use Rattle.house.proofs.WriteLaws.{closed-draft, stopped-draft, ends-stopped, ends-closed, drafts-on, leaf-drafts, leaf-end, close-goes, close-stops, split_goes, split-stops, put-length, split-length, last_less, next-is, next-order, same-order}
 use Rattle.house.proofs.places.Writer.+child_children_place.Goals as goal
 
@@ -156,7 +157,7 @@ children-returns-2-clause-drafts t c =
 
 pub place-returns-then-op-self-clause-drafts : goal.place-returns-then-op-self-clause-drafts
 place-returns-then-op-self-clause-drafts t c =
-    leaf-drafts _ _ _ (leaf-end _ _ _ _ _ _ _ (may-close _ c.allowed-may.ensures c.requires.ready) c.if-op-self.true) c.requires.room.0 c.closed_if.ensures
+    leaf-drafts _ _ _ (leaf-end _ _ _ _ _ _ _ (may-close _ c.allowed-may.ensures c.requires.ready) c.if-op-self.true) c.requires.room.0 (closed-turn _ _ _ c.closed_if.ensures)
 
 pub place-returns-then-self-at-clause-drafts : goal.place-returns-then-self-at-clause-drafts
 place-returns-then-self-at-clause-drafts t c =

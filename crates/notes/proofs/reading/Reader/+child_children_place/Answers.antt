@@ -2,11 +2,12 @@ use mathlib.Core.Path.{refl, sym, ◌∙◌}
 use native.Mathlib.Omega.{arith}
 use Rattle.std.proofs.lemmas.Result.{err_from_is_err_and}
 use Rattle.basics.proofs.FaultLaws.{number-some}
+use Rattle.placing.specs.Ready.{placing_of}
 use Rattle.placing.proofs.BoardLaws.{few-ops, near-leads}
 use Rattle.placing.proofs.ReadyLaws.{may-close}
 use Rattle.placing.proofs.RowsKept.{raised-back, taken-back, lowered-ready, lowered-placed, placed-ready}
 use Rattle.placing.proofs.TurnLaws.{places-small, stands-small, stands-live, stands-places, first-stands, row-begins, after-dead, after-live, stops-live, row-ends, stands-end}
-use Rattle.notes.proofs.ReadLaws.{free-says, leaf-place, fault-place, close-place, split-place, split-inside, split-choice, read-inside, once-read, settles}
+use Rattle.notes.proofs.ReadLaws.{closed-turn, taken-fits, kept-fits, free-says, leaf-place, fault-place, close-place, split-place, split-inside, split-choice, read-inside, once-read, settles}
 use Rattle.notes.proofs.reading.Reader.+child_children_place.Goals as goal
 
 -- ---- a child
@@ -83,46 +84,64 @@ pub children-loop-i-init : goal.children-loop-i-init
 children-loop-i-init t c =
     let o = c.loop-s.invariant in record { begins = o.begins; inside = o.inside; stands = row-begins _ o.stands c.loop-s-test.true }
 
-pub children-fits-requires : goal.children-fits-requires
-children-fits-requires t c =
-    let z = stands-small c.loop-i.invariant.stands in (z.0, z.1, omega (arith, c.loop-i-test.true), z.3)
+pub children-free_at-requires : goal.children-free_at-requires
+children-free_at-requires t c =
+    let z = stands-small c.loop-i.invariant.stands in (z.0, z.1, omega (arith, c.loop-i-test.true))
 
-pub children-loop-i-preserved-then-not-fits : goal.children-loop-i-preserved-then-not-fits
-children-loop-i-preserved-then-not-fits t c =
+pub children-loop-i-preserved-then-not-free_at : goal.children-loop-i-preserved-then-not-free_at
+children-loop-i-preserved-then-not-free_at t c =
     let o = c.loop-i.invariant in
+    let lives =
+    stands-live o.stands _ _ _ _ c.first_start-first.ensures (settles _ _ _ _) o.begins c.loop-i-test.true (taken-fits c.args.self.now.board.now (placing_of c.loop-i.rows) _ _ _ _ _ c.free_at.ensures c.if-not-free_at.true) in
     record {
       begins = o.begins;
       inside = o.inside;
-      stands = after-dead _ _ o.stands c.loop-i-test.true (stands-live o.stands _ _ _ _ c.first_start-first.ensures (settles _ _ _ _) o.begins c.loop-i-test.true c.fits.ensures ∙ c.if-not-fits.true);
+      stands = after-dead _ _ o.stands c.loop-i-test.true (lives ∙ c.if-not-free_at.true);
+    }
+
+pub children-links_kept-requires : goal.children-links_kept-requires
+children-links_kept-requires t c =
+    let z = stands-small c.loop-i.invariant.stands in (z.0, z.1, omega (arith, c.loop-i-test.true), z.3)
+
+pub children-loop-i-preserved-then-not-links_kept : goal.children-loop-i-preserved-then-not-links_kept
+children-loop-i-preserved-then-not-links_kept t c =
+    let o = c.loop-i.invariant in
+    let lives =
+    stands-live o.stands _ _ _ _ c.first_start-first.ensures (settles _ _ _ _) o.begins c.loop-i-test.true (kept-fits c.args.self.now.board.now (placing_of c.loop-i.rows) _ _ _ _ _ c.free_at.ensures c.if-not-free_at.false c.links_kept.ensures) in
+    record {
+      begins = o.begins;
+      inside = o.inside;
+      stands = after-dead _ _ o.stands c.loop-i-test.true (lives ∙ c.if-not-links_kept.true);
     }
 
 pub children-child-requires : goal.children-child-requires
 children-child-requires t c =
-    let o = c.loop-i.invariant in (
+    let o = c.loop-i.invariant in
+    let lives =
+    stands-live o.stands _ _ _ _ c.first_start-first.ensures (settles _ _ _ _) o.begins c.loop-i-test.true (kept-fits c.args.self.now.board.now (placing_of c.loop-i.rows) _ _ _ _ _ c.free_at.ensures c.if-not-free_at.false c.links_kept.ensures) in (
       omega (arith, c.decreases),
-      (
-        stands-places o.stands o.begins c.loop-i-test.true (stands-live o.stands _ _ _ _ c.first_start-first.ensures (settles _ _ _ _) o.begins c.loop-i-test.true c.fits.ensures ∙ c.if-not-fits.false),
-        o.inside,
-      ),
+      (stands-places o.stands o.begins c.loop-i-test.true (lives ∙ c.if-not-links_kept.false), o.inside),
     )
 
 pub children-returns-in_err-next-clause-answers : goal.children-returns-in_err-next-clause-answers
 children-returns-in_err-next-clause-answers t c =
     let o = c.loop-i.invariant in
-    let lives = stands-live o.stands _ _ _ _ c.first_start-first.ensures (settles _ _ _ _) o.begins c.loop-i-test.true c.fits.ensures in
+    let lives =
+    stands-live o.stands _ _ _ _ c.first_start-first.ensures (settles _ _ _ _) o.begins c.loop-i-test.true (kept-fits c.args.self.now.board.now (placing_of c.loop-i.rows) _ _ _ _ _ c.free_at.ensures c.if-not-free_at.false c.links_kept.ensures) in
     let p = err_from_is_err_and c.from_residual.result c.from_residual.ensures.1 in
-    rw (p.1, p.2) (sym (stops-live _ _ o.stands c.loop-i-test.true (lives ∙ c.if-not-fits.false) (sym c.in_err-next.ensures.answers)))
+    rw (p.1, p.2) (sym (stops-live _ _ o.stands c.loop-i-test.true (lives ∙ c.if-not-links_kept.false) (sym c.in_err-next.ensures.answers)))
 
 pub children-loop-i-preserved : goal.children-loop-i-preserved
 children-loop-i-preserved t c =
     let o = c.loop-i.invariant in
-    let lives = stands-live o.stands _ _ _ _ c.first_start-first.ensures (settles _ _ _ _) o.begins c.loop-i-test.true c.fits.ensures in
+    let lives =
+    stands-live o.stands _ _ _ _ c.first_start-first.ensures (settles _ _ _ _) o.begins c.loop-i-test.true (kept-fits c.args.self.now.board.now (placing_of c.loop-i.rows) _ _ _ _ _ c.free_at.ensures c.if-not-free_at.false c.links_kept.ensures) in
     let r = c.in_ok-next.ensures in
     let e = sym r.answers in
     record {
       begins = o.begins;
       inside = read-inside _ _ _ _ _ _ _ _ e o.inside;
-      stands = after-live _ _ o.stands c.loop-i-test.true (lives ∙ c.if-not-fits.false) e r.same;
+      stands = after-live _ _ o.stands c.loop-i-test.true (lives ∙ c.if-not-links_kept.false) e r.same;
     }
 
 pub children-loop-s-preserved : goal.children-loop-s-preserved
@@ -143,7 +162,7 @@ children-returns-2 t c =
 
 pub place-returns-then-left-eq0-clause-answers : goal.place-returns-then-left-eq0-clause-answers
 place-returns-then-left-eq0-clause-answers t c =
-    leaf-place _ _ _ _ _ _ (may-close _ c.allowed-may.ensures c.requires.ready) c.if-left-eq0.true c.closed_if.ensures
+    leaf-place _ _ _ _ _ _ (may-close _ c.allowed-may.ensures c.requires.ready) c.if-left-eq0.true (closed-turn _ _ _ c.closed_if.ensures)
 
 pub place-returns-in_err-mark_fault-clause-answers : goal.place-returns-in_err-mark_fault-clause-answers
 place-returns-in_err-mark_fault-clause-answers t c =

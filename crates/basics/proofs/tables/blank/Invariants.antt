@@ -1,0 +1,8 @@
+-- The loop has tested the cells passed.
+use mathlib.Core.Path.{◌≡◌}
+use Rattle.basics.specs.Counting.{all_to}
+use Rattle.basics.specs.Tables.{cell_blank}
+use Rattle.basics.proofs.tables.blank.Given as goal
+
+abbrev pub invariant-loop-i : goal.invariant-loop-i
+invariant-loop-i l = l.ok ≡ all_to (cell_blank l.table l.n) l.i

@@ -1,6 +1,0 @@
-use Rattle.basics.proofs.ChainLaws.{cells-made}
-use borrow.Author.Rules.{rules}
-use Rattle.placing.proofs.Board.times_in.Goals as goal
-
-pub returns : goal.returns
-returns c = cells-made _ _ (λ x y q l k. search rules) c.from_fn.ensures.items

@@ -1,0 +1,11 @@
+-- The refusal is converted as the definition has it.
+use mathlib.Core.Path.{ap, ◌∙◌}
+use Rattle.moves.proofs.DistanceLaws.{same}
+use Rattle.sheets.specs.Answers.{written_says}
+use Rattle.sheets.proofs.AnswerLaws.{written-said}
+use Rattle.tolmupung.proofs.tolmupung_slide.Goals as goal
+
+pub returns : goal.returns
+returns c =
+    let w = rw (same c.args.distance c.ranges.distance) at c.slide.ensures in
+    record { told = written-said _ _ c.written_says.ensures.wrote c.written_says.ensures.refused ∙ ap written_says w.told; bytes = w.bytes }
