@@ -17,7 +17,7 @@ use placing::rows::Rows;
 use placing::{Board, Claim};
 use sheets::groups::runs_out;
 
-// Beside unless, since house asks it by this name, as the definitions have it (`closed_by`).
+// Beside `unless`, which has no position to go on from; house closes its places by it too.
 /// Closed before bit `at`, or refused by the fault where that is not allowed: a number, or whatever says why.
 #[tactic(auto, unfolding(crate::specs::Reading::closed_by))]
 pub fn closed_if<F: Copy>(may: bool, fault: F, at: usize) -> Result<usize, F>

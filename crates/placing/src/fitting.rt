@@ -23,6 +23,7 @@ use sheets::limits::*;
 impl Board {
     // `settled` is a switch: links that were settled for one start are for the next.
     // An option is three numbers, op, s and i, as the loops over options have them: a struct would be made for each, and taken apart here.
+    // Not by `fits` of tables, which would bring the loops over links into those over options.
     /// Operation op can be placed at step s on instance i. Where its links are settled, because those that they join to it end
     /// before that step, they are not asked.
     #[inline]
